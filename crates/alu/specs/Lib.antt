@@ -1,0 +1,10 @@
+pub mod Addresses
+pub mod Decimal
+pub mod Examples
+pub mod Flags
+pub mod Logic
+pub mod Products
+pub mod Shifts
+pub mod Sums
+pub mod Unary
+pub mod Words

@@ -1,0 +1,66 @@
+// The open memory: the caller's bytes, every one of them open.
+ghost use mathlib.Core.Path.{_≡_};
+ghost use mathlib.Core.Bool.{cond};
+ghost use Prim.Native.Nat.{ℕ};
+ghost use lib.Dec.{ltb};
+ghost use lib.ListN.{set};
+ghost use Rattle.std.specs.Of.Vec.{vec-items, vec-len};
+ghost use Rattle.bus.specs.Open.{openCells};
+ghost use Rattle.bus.specs.Cell.{Cell, Cells, missing-cell, classOf, readAnswer, storeAnswer, stored};
+use crate::cell::BusRefusal;
+use crate::cell::Class;
+use crate::traits::Bus;
+
+// The cell at an address below the number of bytes is open, the others are missing.
+#[derive(Drop)]
+pub struct OpenMemory {
+    bytes: Vec<u8>,
+}
+
+impl OpenMemory {
+    // Takes the caller's bytes. Those past 65,536 have no address.
+    pub fn new(bytes: Vec<u8>) -> OpenMemory
+        ensures { λ r. ⌜ r .bytes ≡ bytes ⌝ }
+    {
+        OpenMemory { bytes }
+    }
+
+    // Gives the bytes back.
+    pub fn into_bytes(self) -> Vec<u8>
+        ensures { λ r. ⌜ r ≡ self .bytes ⌝ }
+    {
+        let OpenMemory { bytes } = self;
+        bytes
+    }
+}
+
+pub impl Bus for OpenMemory as OpenMemoryBus {
+    ghost cells = { λ s. openCells (vec-items (s .bytes)) };
+
+    fn class(&self, address: u16) -> Class {
+        if (address as usize) < self.bytes.len() {
+            Class::Open
+        } else {
+            Class::Missing
+        }
+    }
+
+    fn read(&mut self, address: u16) -> Result<u8, BusRefusal> {
+        let place = address as usize;
+        if place < self.bytes.len() {
+            Ok(self.bytes[place])
+        } else {
+            Err(BusRefusal::MissingCell)
+        }
+    }
+
+    fn store(&mut self, address: u16, byte: u8) -> Result<(), BusRefusal> {
+        let place = address as usize;
+        if place < self.bytes.len() {
+            self.bytes[place] = byte;
+            Ok(())
+        } else {
+            Err(BusRefusal::MissingCell)
+        }
+    }
+}

@@ -1,0 +1,4 @@
+pub mod Maps
+pub mod Timing
+pub mod Law
+pub mod Tables

@@ -1,0 +1,26 @@
+// The HCS08.
+ghost use Rattle.isa.specs.Tables.{hcs08Table, hcs08Entry};
+use crate::core08::Core;
+use crate::hcs08_rows::FIRST_PAGE;
+use crate::row::Page;
+use crate::row::Row;
+
+#[derive(Clone, Copy, Debug)]
+pub struct Hcs08;
+
+pub impl Core for Hcs08 as Hcs08Core {
+    ghost table = { λ _. hcs08Table };
+
+    ghost entryFigure = { λ _. hcs08Entry };
+
+    fn row(&self, page: Page, opcode: u8) -> Option<Row> {
+        match page {
+            Page::First => FIRST_PAGE[opcode as usize],
+            Page::Second => None,
+        }
+    }
+
+    fn entry_cycles(&self) -> u8 {
+        11
+    }
+}

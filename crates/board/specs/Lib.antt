@@ -1,4 +1,5 @@
 pub mod Empty
+pub mod Lines
 pub mod Live
 pub mod Loading
 pub mod Ready

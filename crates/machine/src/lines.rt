@@ -1,12 +1,29 @@
 // The interrupt lines, as a set of 32 bits: bit n is line n.
 ghost use mathlib.Core.Path.{_≡_};
-ghost use Rattle.machine.specs.Lines.{isRaised, servedLine, vectorOf};
+ghost use mathlib.Core.Bool.{true, false, cond};
+ghost use Prim.Native.Nat.{ℕ, _<_};
+ghost use lib.Dec.{eqb};
+ghost use Rattle.machine.specs.Lines.{isRaised, withRaised, withDropped, servedLine, vectorOf, Lowest};
 
 // Whether a line is raised.
 pub fn is_raised(lines: u32, line: u32) -> bool
     ensures { λ r. ⌜ r ≡ isRaised lines line ⌝ }
 {
     line < 32 && (lines >> line) % 2 == 1
+}
+
+// The set with a line raised. A line from 32 on does not exist.
+pub fn with_raised(lines: u32, line: u32) -> u32
+    ensures { λ r. ⌜ r ≡ withRaised lines line ⌝ }
+{
+    if line < 32 { lines | 1 << line } else { lines }
+}
+
+// The set with a line dropped.
+pub fn with_dropped(lines: u32, line: u32) -> u32
+    ensures { λ r. ⌜ r ≡ withDropped lines line ⌝ }
+{
+    if line < 32 { lines & !(1 << line) } else { lines }
 }
 
 // The vector of the line that is served: the lowest one raised.

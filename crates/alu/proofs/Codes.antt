@@ -32,12 +32,12 @@ flags-back f =
     let z = bit-small (f .z) in
     let c = bit-small (f .c) in
     λ k. record {
-        v = bit-tells (f .v) (ccrByte f / 128 % 2) (omega arith) k;
-        h = bit-tells (f .h) (ccrByte f / 16 % 2) (omega arith) k;
-        i = bit-tells (f .i) (ccrByte f / 8 % 2) (omega arith) k;
-        n = bit-tells (f .n) (ccrByte f / 4 % 2) (omega arith) k;
-        z = bit-tells (f .z) (ccrByte f / 2 % 2) (omega arith) k;
-        c = bit-tells (f .c) (ccrByte f / 1 % 2) (omega arith) k
+      v = bit-tells (f .v) (ccrByte f / 128 % 2) (omega arith) k;
+      h = bit-tells (f .h) (ccrByte f / 16 % 2) (omega arith) k;
+      i = bit-tells (f .i) (ccrByte f / 8 % 2) (omega arith) k;
+      n = bit-tells (f .n) (ccrByte f / 4 % 2) (omega arith) k;
+      z = bit-tells (f .z) (ccrByte f / 2 % 2) (omega arith) k;
+      c = bit-tells (f .c) (ccrByte f / 1 % 2) (omega arith) k;
     }
 
 -- the flags of a byte make that byte, but for the bits that are always set

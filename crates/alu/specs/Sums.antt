@@ -22,13 +22,12 @@ byteSum a b carry = (a + b + bit carry) % 256
 
 -- the sum, with V: the signed sum does not fit; H: a carry from bit 3; C: a carry from bit 7
 abbrev pub sumOf : ℕ → ℕ → Bool → Flags → ℕ × Flags
-sumOf a b carry f =
-    (
-        byteSum a b carry,
-        withV
-        (not (fitsIn 8 (signed 8 a +ℤ signed 8 b +ℤ pos (bit carry))))
-        (withH (leb 16 (a % 16 + b % 16 + bit carry)) (withC (leb 256 (a + b + bit carry)) (withNZ 8 (byteSum a b carry) f)))
-    )
+sumOf a b carry f = (
+  byteSum a b carry,
+  withV
+      (not (fitsIn 8 (signed 8 a +ℤ signed 8 b +ℤ pos (bit carry))))
+      (withH (leb 16 (a % 16 + b % 16 + bit carry)) (withC (leb 256 (a + b + bit carry)) (withNZ 8 (byteSum a b carry) f))),
+)
 
 -- the difference of two numbers of w bits, less a borrow
 abbrev pub difference : ℕ → ℕ → ℕ → Bool → ℕ
@@ -36,13 +35,12 @@ difference w a b borrow = (2 ^ w + a - (b + bit borrow)) % 2 ^ w
 
 -- the difference, with V: the signed difference does not fit; C: a borrow
 abbrev pub differenceOf : ℕ → ℕ → ℕ → Bool → Flags → ℕ × Flags
-differenceOf w a b borrow f =
-    (
-        difference w a b borrow,
-        withV
-        (not (fitsIn w (signed w a -ℤ signed w b -ℤ pos (bit borrow))))
-        (withC (ltb a (b + bit borrow)) (withNZ w (difference w a b borrow) f))
-    )
+differenceOf w a b borrow f = (
+  difference w a b borrow,
+  withV
+      (not (fitsIn w (signed w a -ℤ signed w b -ℤ pos (bit borrow))))
+      (withC (ltb a (b + bit borrow)) (withNZ w (difference w a b borrow) f)),
+)
 
 -- the flags order two numbers of w bits: C, the first is below the second; Z, they are equal;
 -- N and V differ, the signed value of the first is below that of the second

@@ -32,10 +32,10 @@ clockRefusal clock otherwise = cond (ltb clockLimit clock) (Some ClockPastLimit)
 abbrev pub stepRefusal : ℕ → Live → Option Refusal
 stepRefusal clock live =
     elim (live .standing) [
-      Running ↦ clockRefusal clock None
-    | Waiting ↦ clockRefusal clock None
-    | Stopped ↦ clockRefusal clock (cond (pending live) None (Some StoppedWithoutLine))
-    | Halted ↦ Some BoardHalted
+      | Running ↦ clockRefusal clock None
+      | Waiting ↦ clockRefusal clock None
+      | Stopped ↦ clockRefusal clock (cond (pending live) None (Some StoppedWithoutLine))
+      | Halted ↦ Some BoardHalted
     ]
 
 -- one cycle passes
@@ -46,19 +46,18 @@ waited live = done (record { registers = live .registers; standing = Waiting; cy
 abbrev pub action : Table → ℕ → Live → Access Executed
 action table figure live =
     elim (live .standing) [
-      Running ↦ cond (pending live && not (live .registers .flags .i)) (entered figure (live .registers) (live .lines)) (instruction table (live .registers) (live .lines))
-    | Waiting ↦ cond (pending live) (entered figure (live .registers) (live .lines)) (waited live)
-    | Stopped ↦ entered figure (live .registers) (live .lines)
-    | Halted ↦ fail
+      | Running ↦ cond (pending live && not (live .registers .flags .i)) (entered figure (live .registers) (live .lines)) (instruction table (live .registers) (live .lines))
+      | Waiting ↦ cond (pending live) (entered figure (live .registers) (live .lines)) (waited live)
+      | Stopped ↦ entered figure (live .registers) (live .lines)
+      | Halted ↦ fail
     ]
 
 -- what a step leaves: its cycles on the clock; at a fault the board halts with its registers as they were, at 0 cycles
 abbrev pub settled : Situation Live → Result Executed Fault × Cells → Result ℕ Refusal × Situation Live
-settled s (Ok e, m) =
-    (
-        Ok (e .cycles),
-        record { clock = s .clock + e .cycles; stage = record { registers = e .registers; standing = e .standing; lines = s .stage .lines }; memory = m }
-    )
+settled s (Ok e, m) = (
+  Ok (e .cycles),
+  record { clock = s .clock + e .cycles; stage = record { registers = e .registers; standing = e .standing; lines = s .stage .lines }; memory = m },
+)
 settled s (Err fault, m) =
     (Ok 0, record { clock = s .clock; stage = record { registers = s .stage .registers; standing = Halted; lines = s .stage .lines }; memory = m })
 

@@ -3,13 +3,13 @@ ghost use mathlib.Core.Path.{_≡_};
 ghost use Rattle.machine.specs.Lines.{withRaised, withDropped};
 ghost use Rattle.board.specs.Lines.{lineSet};
 ghost use Rattle.board.specs.Situation.{situation};
+use crate::board::Board;
+use crate::refusal::Refusal;
+use crate::stages::Live;
 use bus::traits::Bus;
 use isa::core08::Core;
 use machine::lines::with_dropped;
 use machine::lines::with_raised;
-use crate::board::Board;
-use crate::refusal::Refusal;
-use crate::stages::Live;
 
 impl<B: Bus, C: Core> Board<B, C, Live> {
     // Raises a line from 2 to 31.

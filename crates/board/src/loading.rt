@@ -2,14 +2,14 @@
 ghost use mathlib.Core.Path.{_≡_};
 ghost use Rattle.board.specs.Situation.{situation};
 ghost use Rattle.board.specs.Loading.{lineGiven, closedAs};
-use bus::traits::Bus;
-use isa::core08::Core;
-use srecord::load::take_line;
 use crate::board::Board;
 use crate::refusal::Refusal;
 use crate::refusal::Refused;
 use crate::stages::Loading;
 use crate::stages::Ready;
+use bus::traits::Bus;
+use isa::core08::Core;
+use srecord::load::take_line;
 
 impl<B: Bus, C: Core> Board<B, C, Loading> {
     // Takes a record line. A refused one changes nothing.
@@ -27,11 +27,29 @@ impl<B: Bus, C: Core> Board<B, C, Loading> {
     pub fn close(self) -> Result<Board<B, C, Ready>, Refused<Board<B, C, Loading>>>
         ensures { λ r. ⌜ r ≡ closedAs self ⌝ }
     {
-        let Board { bus, core, clock, stage } = self;
+        let Board {
+            bus,
+            core,
+            clock,
+            stage,
+        } = self;
         if stage.ended {
-            Ok(Board { bus, core, clock, stage: Ready })
+            Ok(Board {
+                bus,
+                core,
+                clock,
+                stage: Ready,
+            })
         } else {
-            Err(Refused { refusal: Refusal::NoEndRecord, back: Board { bus, core, clock, stage } })
+            Err(Refused {
+                refusal: Refusal::NoEndRecord,
+                back: Board {
+                    bus,
+                    core,
+                    clock,
+                    stage,
+                },
+            })
         }
     }
 }

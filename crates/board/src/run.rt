@@ -3,11 +3,11 @@ ghost use mathlib.Core.Path.{_≡_};
 ghost use Prim.Native.Nat.{_≤_};
 ghost use Rattle.board.specs.Situation.{situation};
 ghost use Rattle.board.specs.Run.{runTaken, runGiven, endNumber};
-use bus::traits::Bus;
-use isa::core08::Core;
 use crate::board::Board;
 use crate::refusal::Refusal;
 use crate::stages::Live;
+use bus::traits::Bus;
+use isa::core08::Core;
 
 // The most steps of a run.
 const MOST_STEPS: u32 = 65_535;

@@ -1,8 +1,8 @@
 // The four stages of a board's life.
 use machine::registers::Registers;
-use machine::standing::Standing;
 use machine::registers::RegistersDebug;
 use machine::registers::RegistersPartialEq;
+use machine::standing::Standing;
 use machine::standing::StandingDebug;
 use machine::standing::StandingPartialEq;
 

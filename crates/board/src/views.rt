@@ -1,11 +1,11 @@
 // What a board shows.
 ghost use mathlib.Core.Path.{_≡_};
+use crate::board::Board;
+use crate::stages::Live;
 use bus::traits::Bus;
 use isa::core08::Core;
 use machine::registers::Registers;
 use machine::standing::Standing;
-use crate::board::Board;
-use crate::stages::Live;
 
 impl<B: Bus, C: Core, S> Board<B, C, S> {
     // The cycles that have passed, from the starting clock on.

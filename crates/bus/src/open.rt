@@ -5,7 +5,7 @@ ghost use Prim.Native.Nat.{ℕ};
 ghost use lib.Dec.{ltb};
 ghost use lib.ListN.{set};
 ghost use Rattle.std.specs.Of.Vec.{vec-items, vec-len};
-ghost use Rattle.bus.specs.Open.{openCells};
+ghost use Rattle.bus.specs.Open.{openCells, openStored, beyond};
 ghost use Rattle.bus.specs.Cell.{Cell, Cells, missing-cell, classOf, readAnswer, storeAnswer, stored};
 use crate::cell::BusRefusal;
 use crate::cell::Class;
@@ -20,7 +20,8 @@ pub struct OpenMemory {
 impl OpenMemory {
     // Takes the caller's bytes. Those past 65,536 have no address.
     pub fn new(bytes: Vec<u8>) -> OpenMemory
-        ensures { λ r. ⌜ r .bytes ≡ bytes ⌝ }
+        ensures bytes { λ r. ⌜ r .bytes ≡ bytes ⌝ }
+        ensures shown { λ r. ⌜ openCells (vec-items (r .bytes)) ≡ openCells (vec-items bytes) ⌝ }
     {
         OpenMemory { bytes }
     }
@@ -45,7 +46,11 @@ pub impl Bus for OpenMemory as OpenMemoryBus {
         }
     }
 
-    fn read(&mut self, address: u16) -> Result<u8, BusRefusal> {
+    fn read(&mut self, address: u16) -> Result<u8, BusRefusal>
+        ensures value { λ r. ⌜ r ≡ readAnswer (openCells (vec-items (now (self .entry) .bytes)) address) ⌝ }
+        ensures same { λ _. ⌜ openCells (vec-items (now (self .exit) .bytes)) ≡ openCells (vec-items (now (self .entry) .bytes)) ⌝ }
+        ensures bytes { λ _. ⌜ vec-items (now (self .exit) .bytes) ≡ vec-items (now (self .entry) .bytes) ⌝ }
+    {
         let place = address as usize;
         if place < self.bytes.len() {
             Ok(self.bytes[place])
@@ -54,7 +59,12 @@ pub impl Bus for OpenMemory as OpenMemoryBus {
         }
     }
 
-    fn store(&mut self, address: u16, byte: u8) -> Result<(), BusRefusal> {
+    fn store(&mut self, address: u16, byte: u8) -> Result<(), BusRefusal>
+        ensures value { λ r. ⌜ r ≡ storeAnswer (openCells (vec-items (now (self .entry) .bytes)) address) ⌝ }
+        ensures after { λ _. ⌜ openCells (vec-items (now (self .exit) .bytes)) ≡ stored (openCells (vec-items (now (self .entry) .bytes))) address byte ⌝ }
+        ensures bytes { λ _. ⌜ vec-items (now (self .exit) .bytes) ≡ openStored (vec-items (now (self .entry) .bytes)) address byte ⌝ }
+        ensures untouched { λ _. ⌜ beyond (vec-items (now (self .exit) .bytes)) ≡ beyond (vec-items (now (self .entry) .bytes)) ⌝ }
+    {
         let place = address as usize;
         if place < self.bytes.len() {
             self.bytes[place] = byte;

@@ -62,12 +62,14 @@ rest o = Some (Rest o, Inherent)
 -- LDHX and CPHX with the word after the opcode
 abbrev pub ldhx : Place
 ldhx = Some (Word Ldhx, Immediate)
+
 abbrev pub cphx : Place
 cphx = Some (Word Cphx, Immediate)
 
 -- AIS and AIX
 abbrev pub ais : Place
 ais = Some (Displace Ais, Immediate)
+
 abbrev pub aix : Place
 aix = Some (Displace Aix, Immediate)
 

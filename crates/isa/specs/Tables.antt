@@ -31,5 +31,6 @@ hcs08Table = tableOf hcs08Map (λ o m. figures o m .hcs08)
 -- the cycles of entry
 abbrev pub cpu08Entry : ℕ
 cpu08Entry = entryFigures .cpu08
+
 abbrev pub hcs08Entry : ℕ
 hcs08Entry = entryFigures .hcs08

@@ -14,7 +14,6 @@ pub record Figures : Type 0 where
   pub hcs08 : ℕ
 
 infix 4 _⁄_
-
 -- CPU08 ⁄ HCS08
 abbrev pub _⁄_ : ℕ → ℕ → Figures
 a ⁄ b = record { cpu08 = a; hcs08 = b }

@@ -1,4 +1,6 @@
 // One row of a core's table.
+ghost use mathlib.Core.Path.{_≡_};
+ghost use Rattle.isa.specs.Row.{rowOf};
 use crate::operation::Operation;
 use crate::operation::OperationDebug;
 use crate::operation::OperationPartialEq;
@@ -25,6 +27,9 @@ pub enum Page {
     Second,
 }
 
+// A place of a table as it is written down: operation, mode, bytes and cycles, or none.
+pub type Entry = Option<(Operation, Mode, u8, u8)>;
+
 // An instruction: what it does, how it finds its operand, its length in bytes, and what it costs.
 #[derive(Clone, Copy, PartialEq, Eq, Debug)]
 pub struct Row {
@@ -32,4 +37,17 @@ pub struct Row {
     pub mode: Mode,
     pub bytes: u8,
     pub cycles: u8,
+}
+
+// The row that a place of a table holds.
+pub fn row_of(entry: Entry) -> Option<Row>
+    ensures { λ r. ⌜ r ≡ rowOf entry ⌝ }
+{
+    let (operation, mode, bytes, cycles) = entry?;
+    Some(Row {
+        operation,
+        mode,
+        bytes,
+        cycles,
+    })
 }

@@ -15,7 +15,6 @@ pub data Access (X : Type 0) : Type 0 where
   store : ℕ → ℕ → Access X → Access X
 
 infixl 4 _>>=_
-
 -- one tree, and then another that takes its result
 abbrev pub _>>=_ : {X Y : Type 0} → Access X → (X → Access Y) → Access Y
 done x >>= f = f x

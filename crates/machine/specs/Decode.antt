@@ -30,10 +30,10 @@ rowAnswer None operand = Err NoInstruction
 abbrev pub decoded : Table → ℕ → Access Decoded
 decoded table pc =
     read pc (λ opcode.
-        cond
-        (eqb opcode 0x9E)
-        (read (after pc 1) (λ second. rowFound (table Second second) (after pc 2)))
-        (rowFound (table First opcode) (after pc 1)))
+    cond
+    (eqb opcode 0x9E)
+    (read (after pc 1) (λ second. rowFound (table Second second) (after pc 2)))
+    (rowFound (table First opcode) (after pc 1)))
 
 -- the operand byte of an instruction that takes one; a mode with no operand byte has none
 abbrev pub operandByte : Mode → ℕ → Access ℕ

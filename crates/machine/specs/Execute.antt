@@ -67,13 +67,13 @@ running r = (r, Running)
 abbrev pub operated : Decoded → Registers → ℕ → Access (Registers × Standing)
 operated d r lines =
     elim (d .row .operation) [
-      Branch c ↦ operandByte (d .row .mode) (d .operand) >>= (λ offset. done (running (branched c offset r lines)))
-    | Combine o ↦ operandByte (d .row .mode) (d .operand) >>= (λ byte. done (running (combined o byte r)))
-    | Modify o ↦ answered (placed o (d .row .mode) r) >>= (λ s. done (running s))
-    | Word o ↦ fetchWord (d .operand) >>= (λ word. done (running (worded o word r)))
-    | Displace p ↦ operandByte (d .row .mode) (d .operand) >>= (λ offset. done (running (displacing p offset r)))
-    | Register o ↦ done (running (registered o r))
-    | Rest o ↦ done (rested o r)
+      | Branch c ↦ operandByte (d .row .mode) (d .operand) >>= (λ offset. done (running (branched c offset r lines)))
+      | Combine o ↦ operandByte (d .row .mode) (d .operand) >>= (λ byte. done (running (combined o byte r)))
+      | Modify o ↦ answered (placed o (d .row .mode) r) >>= (λ s. done (running s))
+      | Word o ↦ fetchWord (d .operand) >>= (λ word. done (running (worded o word r)))
+      | Displace p ↦ operandByte (d .row .mode) (d .operand) >>= (λ offset. done (running (displacing p offset r)))
+      | Register o ↦ done (running (registered o r))
+      | Rest o ↦ done (rested o r)
     ]
 
 -- the registers with the program counter moved on to the next instruction

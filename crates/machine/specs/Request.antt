@@ -31,7 +31,7 @@ within r pc = withFlags (withI true (r .flags)) (withSp (before (r .sp) 5) (with
 abbrev pub vectored : ℕ → Registers → ℕ → Access Executed
 vectored figure r lines =
     fetchWord (vectorOf (servedLine lines)) >>= (λ pc.
-        done (record { registers = within r pc; standing = Running; cycles = figure }))
+    done (record { registers = within r pc; standing = Running; cycles = figure }))
 
 -- the frame is pushed before the vector is read
 abbrev pub entered : ℕ → Registers → ℕ → Access Executed

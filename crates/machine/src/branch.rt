@@ -1,11 +1,11 @@
 // The branches.
 ghost use mathlib.Core.Path.{_≡_};
 ghost use Rattle.machine.specs.Branch.{taken, branched};
+use crate::lines::is_raised;
+use crate::registers::Registers;
 use alu::addresses::displaced;
 use alu::flags::Flags;
 use isa::operation::Condition;
-use crate::lines::is_raised;
-use crate::registers::Registers;
 
 // Whether a branch is taken.
 pub fn is_taken(condition: Condition, flags: Flags, lines: u32) -> bool

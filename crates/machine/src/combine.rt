@@ -1,6 +1,7 @@
 // A register combined with an operand byte.
 ghost use mathlib.Core.Path.{_≡_};
 ghost use Rattle.machine.specs.Combine.{combined};
+use crate::registers::Registers;
 use alu::logic::and;
 use alu::logic::exclusive_or;
 use alu::logic::or;
@@ -8,7 +9,6 @@ use alu::logic::test_byte;
 use alu::sums::add;
 use alu::sums::subtract;
 use isa::operation::RegisterMemory;
-use crate::registers::Registers;
 
 pub fn combine(operation: RegisterMemory, byte: u8, registers: Registers) -> Registers
     ensures { λ r. ⌜ r ≡ combined operation byte registers ⌝ }

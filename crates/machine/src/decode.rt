@@ -2,13 +2,13 @@
 ghost use mathlib.Core.Path.{_≡_};
 ghost use Rattle.machine.specs.Access.{perform};
 ghost use Rattle.machine.specs.Decode.{decoded, rowFound, rowAnswer, operandByte};
+use crate::access::Fault;
+use crate::access::read_cell;
 use bus::traits::Bus;
 use isa::core08::Core;
 use isa::row::Mode;
 use isa::row::Page;
 use isa::row::Row;
-use crate::access::Fault;
-use crate::access::read_cell;
 
 // The byte that leads to the second opcode page.
 const PREFIX: u8 = 0x9E;

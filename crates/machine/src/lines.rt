@@ -23,7 +23,11 @@ pub fn with_raised(lines: u32, line: u32) -> u32
 pub fn with_dropped(lines: u32, line: u32) -> u32
     ensures { λ r. ⌜ r ≡ withDropped lines line ⌝ }
 {
-    if line < 32 { lines & !(1 << line) } else { lines }
+    if line < 32 {
+        lines & !(1 << line)
+    } else {
+        lines
+    }
 }
 
 // The vector of the line that is served: the lowest one raised.

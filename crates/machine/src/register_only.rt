@@ -1,6 +1,7 @@
 // The instructions that touch registers and flags alone.
 ghost use mathlib.Core.Path.{_≡_};
 ghost use Rattle.machine.specs.RegisterOnly.{registered, divided, multiplied};
+use crate::registers::Registers;
 use alu::decimal::decimal_adjust;
 use alu::flags::Flags;
 use alu::logic::test_byte;
@@ -10,14 +11,18 @@ use alu::unary::swap_nibbles;
 use alu::words::high_byte;
 use alu::words::word;
 use isa::operation::RegisterOnly;
-use crate::registers::Registers;
 
 // X:A is the product of X and A.
 fn product(registers: Registers) -> Registers
     ensures { λ r. ⌜ r ≡ multiplied registers ⌝ }
 {
     let ((x, a), flags) = multiply(registers.x, registers.a, registers.flags);
-    Registers { a, x, flags, ..registers }
+    Registers {
+        a,
+        x,
+        flags,
+        ..registers
+    }
 }
 
 // H:A is divided by X: the quotient in A, the remainder in H.
@@ -25,7 +30,12 @@ fn quotient(registers: Registers) -> Registers
     ensures { λ r. ⌜ r ≡ divided registers ⌝ }
 {
     let ((a, h), flags) = divide(registers.h, registers.a, registers.x, registers.flags);
-    Registers { a, h, flags, ..registers }
+    Registers {
+        a,
+        h,
+        flags,
+        ..registers
+    }
 }
 
 pub fn register_only(operation: RegisterOnly, registers: Registers) -> Registers

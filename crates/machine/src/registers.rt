@@ -57,7 +57,11 @@ impl Registers {
     pub fn with_hx(self, word: u16) -> Registers
         ensures { λ r. ⌜ r ≡ withHx word self ⌝ }
     {
-        Registers { h: high_byte(word), x: low_byte(word), ..self }
+        Registers {
+            h: high_byte(word),
+            x: low_byte(word),
+            ..self
+        }
     }
 
     // These registers with the stack pointer as given.

@@ -2,11 +2,6 @@
 ghost use mathlib.Core.Path.{_≡_};
 ghost use Rattle.machine.specs.Access.{perform};
 ghost use Rattle.machine.specs.Request.{entered, vectored, pushedFrame, pushedWord, pushedOperands};
-use alu::flags::Flags;
-use alu::words::high_byte;
-use alu::words::low_byte;
-use bus::traits::Bus;
-use isa::core08::Core;
 use crate::access::Fault;
 use crate::access::read_word;
 use crate::access::store_cell;
@@ -14,6 +9,11 @@ use crate::execute::Executed;
 use crate::lines::served_vector;
 use crate::registers::Registers;
 use crate::standing::Standing;
+use alu::flags::Flags;
+use alu::words::high_byte;
+use alu::words::low_byte;
+use bus::traits::Bus;
+use isa::core08::Core;
 
 // Pushes a word, its low byte first.
 pub fn push_word<B: Bus>(bus: &mut B, sp: u16, word: u16) -> Result<(), Fault>
@@ -41,17 +41,39 @@ pub fn push_frame<B: Bus>(bus: &mut B, registers: Registers) -> Result<(), Fault
 }
 
 // Goes on at the vector of the lowest raised line, with I set and the frame on the stack.
-fn go_to_vector<B: Bus, C: Core>(bus: &mut B, core: &C, registers: Registers, lines: u32) -> Result<Executed, Fault>
+fn go_to_vector<B: Bus, C: Core>(
+    bus: &mut B,
+    core: &C,
+    registers: Registers,
+    lines: u32,
+) -> Result<Executed, Fault>
     ensures { λ r. ⌜ (r, cells (now (bus .exit))) ≡ perform (vectored (entryFigure (now (core .entry))) registers lines) (cells (now (bus .entry))) ⌝ }
 {
     let pc = read_word(bus, served_vector(lines))?;
-    let flags = Flags { i: true, ..registers.flags };
-    let registers = Registers { pc, sp: registers.sp.wrapping_sub(5), flags, ..registers };
-    Ok(Executed { registers, standing: Standing::Running, cycles: core.entry_cycles() })
+    let flags = Flags {
+        i: true,
+        ..registers.flags
+    };
+    let registers = Registers {
+        pc,
+        sp: registers.sp.wrapping_sub(5),
+        flags,
+        ..registers
+    };
+    Ok(Executed {
+        registers,
+        standing: Standing::Running,
+        cycles: core.entry_cycles(),
+    })
 }
 
 // Enters the request of the lowest raised line. The line stays raised.
-pub fn enter<B: Bus, C: Core>(bus: &mut B, core: &C, registers: Registers, lines: u32) -> Result<Executed, Fault>
+pub fn enter<B: Bus, C: Core>(
+    bus: &mut B,
+    core: &C,
+    registers: Registers,
+    lines: u32,
+) -> Result<Executed, Fault>
     ensures { λ r. ⌜ (r, cells (now (bus .exit))) ≡ perform (entered (entryFigure (now (core .entry))) registers lines) (cells (now (bus .entry))) ⌝ }
 {
     push_frame(bus, registers)?;

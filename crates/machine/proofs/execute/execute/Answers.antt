@@ -9,11 +9,11 @@ returns g c =
     c .carry-out .ensures
     ∙ sym
     (after-ok
-     (carriedOut (c .args .registers) (c .args .lines))
-     (decoded (g .C·Core .table (c .args .core .now)) (c .args .registers .pc))
-     (g .B·Bus .cells (c .args .bus .now))
-     _
-     _
-     _
-     (c .decode .ensures)
-     (c .in-Continue-decoded .was tt))
+    (carriedOut (c .args .registers) (c .args .lines))
+    (decoded (g .C·Core .table (c .args .core .now)) (c .args .registers .pc))
+    (g .B·Bus .cells (c .args .bus .now))
+    _
+    _
+    _
+    (c .decode .ensures)
+    (c .in-Continue-decoded .was tt))

@@ -10,15 +10,15 @@ returns-in-Break-push-frame g c =
     let p = err-from-errBy (c .from-residual .result) (c .from-residual .ensures .1) in
     rw (p .1, p .2)
     (sym
-     (after-err
-      (λ _. vectored figure (c .args .registers) (c .args .lines))
-      (pushedFrame (c .args .registers))
-      (g .B·Bus .cells (c .args .bus .now))
-      _
-      _
-      _
-      (c .push-frame .ensures)
-      (c .in-Break-push-frame .was tt)))
+    (after-err
+    (λ _. vectored figure (c .args .registers) (c .args .lines))
+    (pushedFrame (c .args .registers))
+    (g .B·Bus .cells (c .args .bus .now))
+    _
+    _
+    _
+    (c .push-frame .ensures)
+    (c .in-Break-push-frame .was tt)))
 
 pub returns : need.returns
 returns g c =
@@ -26,11 +26,11 @@ returns g c =
     c .go-to-vector .ensures
     ∙ sym
     (after-ok
-     (λ _. vectored figure (c .args .registers) (c .args .lines))
-     (pushedFrame (c .args .registers))
-     (g .B·Bus .cells (c .args .bus .now))
-     _
-     _
-     _
-     (c .push-frame .ensures)
-     (c .in-Continue-push-frame .was tt))
+    (λ _. vectored figure (c .args .registers) (c .args .lines))
+    (pushedFrame (c .args .registers))
+    (g .B·Bus .cells (c .args .bus .now))
+    _
+    _
+    _
+    (c .push-frame .ensures)
+    (c .in-Continue-push-frame .was tt))

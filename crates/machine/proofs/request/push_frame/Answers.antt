@@ -10,11 +10,11 @@ returns g c =
     c .push-operands .ensures
     ∙ sym
     (after-ok
-     (λ _. pushedOperands (before (r .sp) 2) r)
-     (pushedWord (r .sp) (r .pc))
-     (g .B·Bus .cells (c .args .bus .now))
-     _
-     _
-     _
-     (c .push-word .ensures)
-     (c .in-Continue-push-word .was tt))
+    (λ _. pushedOperands (before (r .sp) 2) r)
+    (pushedWord (r .sp) (r .pc))
+    (g .B·Bus .cells (c .args .bus .now))
+    _
+    _
+    _
+    (c .push-word .ensures)
+    (c .in-Continue-push-word .was tt))

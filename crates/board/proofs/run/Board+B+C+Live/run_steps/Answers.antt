@@ -19,28 +19,27 @@ loop-steps-again g c =
     let at = situation {C = g .C .Denot} {S = Live} (g .B·Bus .cells) in
     let more : c .loop-steps .steps < c .args .budget = omega arith in
     let stepped =
-        subst
-        (λ k. _≡_ {A = Result ℕ Refusal × Situation Live} (Ok (c .in-Ok .spent), at (c .step .last .self)) (stepTaken (g .C·Core .table k) (g .C·Core .entryFigure k) (at (c .loop-steps .self))))
-        (c .loop-steps .inv .2)
-        (c .in-Ok .ensures tt .meaning) in
-    (
-        omega arith,
-        omega arith,
-        c .step .ensures .core ∙ c .loop-steps .inv .2,
-        rw (c .from-cycles .ensures)
-        (again
-         (g .C·Core .table core)
-         (g .C·Core .entryFigure core)
-         (c .args .budget)
-         (c .loop-steps .steps)
-         (c .loop-steps .cycles)
-         (at (c .args .self .now))
-         (at (c .loop-steps .self))
-         (at (c .step .last .self))
-         (c .loop-steps .inv .3)
-         (c .in-Ok .spent)
-         more
-         stepped)
+    subst
+    (λ k. _≡_ {A = Result ℕ Refusal × Situation Live} (Ok (c .in-Ok .spent), at (c .step .last .self)) (stepTaken (g .C·Core .table k) (g .C·Core .entryFigure k) (at (c .loop-steps .self))))
+    (c .loop-steps .inv .2)
+    (c .in-Ok .ensures tt .meaning) in (
+      omega arith,
+      omega arith,
+      c .step .ensures .core ∙ c .loop-steps .inv .2,
+      rw (c .from-cycles .ensures)
+          (again
+          (g .C·Core .table core)
+          (g .C·Core .entryFigure core)
+          (c .args .budget)
+          (c .loop-steps .steps)
+          (c .loop-steps .cycles)
+          (at (c .args .self .now))
+          (at (c .loop-steps .self))
+          (at (c .step .last .self))
+          (c .loop-steps .inv .3)
+          (c .in-Ok .spent)
+          more
+          stepped),
     )
 
 -- the loop breaks with the budget spent, or with the refusal of a step
@@ -49,42 +48,42 @@ returns g c =
     let core = c .args .self .now .core in
     let at = situation {C = g .C .Denot} {S = Live} (g .B·Bus .cells) in
     elim (c .if-steps-budget .came) [
-      then-steps-budget w ↦
-        let number : c .end-number .result ≡ 0 = c .end-number .ensures ∙ ap endNumber (w .ended-is) in
-        let whole =
-            spentAll
-            (g .C·Core .table core)
-            (g .C·Core .entryFigure core)
-            (c .args .budget)
-            (c .loop-steps .steps)
-            (c .loop-steps .cycles)
-            (at (c .args .self .now))
-            (at (c .loop-steps .self))
-            (at (c .loop-steps .self))
-            (c .loop-steps .inv .3)
-            (w .if-steps-budget .taken) in
-        record { meaning = cc (number, whole, w .self-is); core = cc (w .self-is, c .loop-steps .inv .2) }
-    | else-steps-budget·in-Err w ↦
-        let number : c .end-number .result ≡ refusalNumber (w .in-Err .refusal) = c .end-number .ensures ∙ ap endNumber (w .ended-is) in
-        let more : c .loop-steps .steps < c .args .budget = omega arith in
-        let stepped =
-            subst
-            (λ k. _≡_ {A = Result ℕ Refusal × Situation Live} (Err (w .in-Err .refusal), at (w .step .last .self)) (stepTaken (g .C·Core .table k) (g .C·Core .entryFigure k) (at (c .loop-steps .self))))
-            (c .loop-steps .inv .2)
-            (w .in-Err .ensures tt .meaning) in
-        let whole =
-            refused
-            (g .C·Core .table core)
-            (g .C·Core .entryFigure core)
-            (c .args .budget)
-            (c .loop-steps .steps)
-            (c .loop-steps .cycles)
-            (at (c .args .self .now))
-            (at (c .loop-steps .self))
-            (at (w .step .last .self))
-            (c .loop-steps .inv .3)
-            (w .in-Err .refusal)
-            more
-            stepped in
-        record { meaning = cc (number, whole, w .self-is); core = cc (w .self-is, w .step .ensures .core, c .loop-steps .inv .2) }
+      | then-steps-budget w ↦
+          let number : c .end-number .result ≡ 0 = c .end-number .ensures ∙ ap endNumber (w .ended-is) in
+          let whole =
+          spentAll
+          (g .C·Core .table core)
+          (g .C·Core .entryFigure core)
+          (c .args .budget)
+          (c .loop-steps .steps)
+          (c .loop-steps .cycles)
+          (at (c .args .self .now))
+          (at (c .loop-steps .self))
+          (at (c .loop-steps .self))
+          (c .loop-steps .inv .3)
+          (w .if-steps-budget .taken) in
+          record { meaning = cc (number, whole, w .self-is); core = cc (w .self-is, c .loop-steps .inv .2) }
+      | else-steps-budget·in-Err w ↦
+          let number : c .end-number .result ≡ refusalNumber (w .in-Err .refusal) = c .end-number .ensures ∙ ap endNumber (w .ended-is) in
+          let more : c .loop-steps .steps < c .args .budget = omega arith in
+          let stepped =
+          subst
+          (λ k. _≡_ {A = Result ℕ Refusal × Situation Live} (Err (w .in-Err .refusal), at (w .step .last .self)) (stepTaken (g .C·Core .table k) (g .C·Core .entryFigure k) (at (c .loop-steps .self))))
+          (c .loop-steps .inv .2)
+          (w .in-Err .ensures tt .meaning) in
+          let whole =
+          refused
+          (g .C·Core .table core)
+          (g .C·Core .entryFigure core)
+          (c .args .budget)
+          (c .loop-steps .steps)
+          (c .loop-steps .cycles)
+          (at (c .args .self .now))
+          (at (c .loop-steps .self))
+          (at (w .step .last .self))
+          (c .loop-steps .inv .3)
+          (w .in-Err .refusal)
+          more
+          stepped in
+          record { meaning = cc (number, whole, w .self-is); core = cc (w .self-is, w .step .ensures .core, c .loop-steps .inv .2) }
     ]

@@ -1,0 +1,3 @@
+pub mod ColumnLaws
+pub mod LineLaws
+pub mod OrderLaws

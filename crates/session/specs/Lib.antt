@@ -1,0 +1,3 @@
+pub mod Declined
+pub mod Orders
+pub mod Rows

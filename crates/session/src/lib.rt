@@ -1,0 +1,6 @@
+// What does a whole session print?
+
+mod declined;
+mod orders;
+
+mod rows;

@@ -3,16 +3,12 @@ use mathlib.Core.Bool.{cond}
 use mathlib.Core.List.{List}
 use Prim.Native.Nat.{ℕ}
 use lib.Dec.{ltb}
-use lib.ListN.{length, getD, set, drop}
+use lib.ListN.{length, getD, set}
 use Rattle.bus.specs.Cell.{Cell, Cells, open-cell, missing-cell}
 
 -- the bytes once one was stored; an address past their end changes nothing
 abbrev pub openStored : List ℕ → ℕ → ℕ → List ℕ
 openStored bytes address new = cond (ltb address (length bytes)) (set bytes address new) bytes
-
--- the bytes that no address reaches
-abbrev pub beyond : List ℕ → List ℕ
-beyond bytes = drop 65536 bytes
 
 -- addresses run from 0 to 65,535; below the number of bytes a cell is open and shows its byte, others are missing
 abbrev pub openCells : List ℕ → Cells

@@ -1,11 +1,11 @@
 // The open memory: the caller's bytes, every one of them open.
 ghost use mathlib.Core.Path.{_≡_};
 ghost use mathlib.Core.Bool.{cond};
-ghost use Prim.Native.Nat.{ℕ};
+ghost use Prim.Native.Nat.{ℕ, _≤_};
 ghost use lib.Dec.{ltb};
-ghost use lib.ListN.{set};
+ghost use lib.ListN.{getD};
 ghost use Rattle.std.specs.Of.Vec.{vec-items, vec-len};
-ghost use Rattle.bus.specs.Open.{openCells, openStored, beyond};
+ghost use Rattle.bus.specs.Open.{openCells, openStored};
 ghost use Rattle.bus.specs.Cell.{Cell, Cells, missing-cell, classOf, readAnswer, storeAnswer, stored};
 use crate::cell::BusRefusal;
 use crate::cell::Class;
@@ -63,7 +63,7 @@ pub impl Bus for OpenMemory as OpenMemoryBus {
         ensures value { λ r. ⌜ r ≡ storeAnswer (openCells (vec-items (now (self .entry) .bytes)) address) ⌝ }
         ensures after { λ _. ⌜ openCells (vec-items (now (self .exit) .bytes)) ≡ stored (openCells (vec-items (now (self .entry) .bytes))) address byte ⌝ }
         ensures bytes { λ _. ⌜ vec-items (now (self .exit) .bytes) ≡ openStored (vec-items (now (self .entry) .bytes)) address byte ⌝ }
-        ensures untouched { λ _. ⌜ beyond (vec-items (now (self .exit) .bytes)) ≡ beyond (vec-items (now (self .entry) .bytes)) ⌝ }
+        ensures untouched { λ _. ⌜ ((k : ℕ) → 65536 ≤ k → getD (vec-items (now (self .exit) .bytes)) k 0 ≡ getD (vec-items (now (self .entry) .bytes)) k 0) ⌝ }
     {
         let place = address as usize;
         if place < self.bytes.len() {

@@ -50,7 +50,8 @@ fn run_outcome(answer: Result<(u32, u32, u8), Refusal>) -> Outcome
 
 // Carries out an order.
 fn obey<B: Bus, C: Core>(board: &mut Board<B, C, Live>, order: Option<Order>) -> Outcome
-    ensures meaning { λ r. ⌜ (r, situation cells (now (board .exit))) ≡ obeyed (table (now (board .entry) .core)) (entryFigure (now (board .entry) .core)) order (situation cells (now (board .entry))) ⌝ }
+    ensures outcome { λ r. ⌜ r ≡ obeyed (table (now (board .entry) .core)) (entryFigure (now (board .entry) .core)) order (situation cells (now (board .entry))) .0 ⌝ }
+    ensures board { λ _. ⌜ situation cells (now (board .exit)) ≡ obeyed (table (now (board .entry) .core)) (entryFigure (now (board .entry) .core)) order (situation cells (now (board .entry))) .1 ⌝ }
     ensures core { λ _. ⌜ now (board .exit) .core ≡ now (board .entry) .core ⌝ }
 {
     match order {

@@ -1,3 +1,4 @@
 pub mod Declined
 pub mod Orders
+pub mod Phase
 pub mod Rows

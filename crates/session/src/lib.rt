@@ -1,6 +1,5 @@
 // What does a whole session print?
-
 mod declined;
 mod orders;
-
+mod phase;
 mod rows;

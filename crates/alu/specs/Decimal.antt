@@ -11,7 +11,7 @@ use Rattle.alu.specs.Sums.{sumOf}
 abbrev pub lowAdjusted : ℕ → Flags → Bool
 lowAdjusted a f = ltb 9 (a % 16) || f .h
 
--- whether the high digit is to be adjusted: the byte is above 99, or the sum had a carry
+-- whether the high digit is to be adjusted: the digits are above 99, or the sum had a carry
 abbrev pub highAdjusted : ℕ → Flags → Bool
 highAdjusted a f = ltb 0x99 a || f .c
 

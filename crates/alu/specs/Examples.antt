@@ -1,7 +1,6 @@
 -- Examples of arithmetic, worked out.
-use mathlib.Core.Bool.{Bool, true, false}
+use mathlib.Core.Bool.{true, false}
 use mathlib.Core.Path.{_≡_}
-use Prim.Native.Nat.{ℕ}
 use Rattle.alu.specs.declared.flags.Flags.{Flags}
 use Rattle.alu.specs.Flags.{withH}
 use Rattle.alu.specs.Sums.{sumOf, differenceOf}

@@ -14,8 +14,8 @@ abbrev pub bitAt : ℕ → ℕ → Bool
 bitAt k n = eqb (n / 2 ^ k % 2) 1
 
 -- whether one of two flags is set, and the other is not
-abbrev pub differ : Bool → Bool → Bool
-differ p q = cond p (not q) q
+abbrev pub unlike : Bool → Bool → Bool
+unlike p q = cond p (not q) q
 
 -- the condition code byte: the flags in their bits, and bits 6 and 5 set
 abbrev pub ccrByte : Flags → ℕ

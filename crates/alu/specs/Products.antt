@@ -1,6 +1,6 @@
 -- Products and quotients.
 use mathlib.Core.Bool.{true, false, cond}
-use Prim.Native.Nat.{ℕ, _+_, _*_, _/_, _%_}
+use Prim.Native.Nat.{ℕ, _*_, _/_, _%_}
 use lib.Dec.{eqb, ltb}
 use Rattle.alu.specs.declared.flags.Flags.{Flags}
 use Rattle.alu.specs.Flags.{withH, withZ, withC}

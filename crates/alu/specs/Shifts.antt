@@ -2,11 +2,11 @@
 use mathlib.Core.Bool.{Bool}
 use Prim.Native.Nat.{ℕ, _+_, _*_, _/_, _%_}
 use Rattle.alu.specs.declared.flags.Flags.{Flags}
-use Rattle.alu.specs.Flags.{bit, bitAt, differ, withV, withC, withNZ}
+use Rattle.alu.specs.Flags.{bit, bitAt, unlike, withV, withC, withNZ}
 
 -- what a shift leaves: C is the bit shifted out, and V is set where N and C differ
 abbrev pub shiftOf : ℕ → Bool → Flags → ℕ × Flags
-shiftOf result out f = (result, withV (differ (bitAt 7 result) out) (withC out (withNZ 8 result f)))
+shiftOf result out f = (result, withV (unlike (bitAt 7 result) out) (withC out (withNZ 8 result f)))
 
 -- to the left, with a 0 from the right
 abbrev pub shiftLeftOf : ℕ → Flags → ℕ × Flags

@@ -6,11 +6,11 @@ use lib.Dec.{eqb, ltb, leb}
 use lib.IntN.{ℤ, pos, negℤ, _+ℤ_, _-ℤ_}
 use lib.Signed.{ltZ, leZ}
 use Rattle.alu.specs.declared.flags.Flags.{Flags}
-use Rattle.alu.specs.Flags.{bit, differ, withV, withH, withC, withNZ}
+use Rattle.alu.specs.Flags.{bit, unlike, withV, withH, withC, withNZ}
 
 -- the signed value of a number of w bits
-abbrev pub signed : ℕ → ℕ → ℤ
-signed w number = cond (ltb number (2 ^ (w - 1))) (pos number) (pos number -ℤ pos (2 ^ w))
+abbrev pub signedValue : ℕ → ℕ → ℤ
+signedValue w number = cond (ltb number (2 ^ (w - 1))) (pos number) (pos number -ℤ pos (2 ^ w))
 
 -- whether an integer is the signed value of a number of w bits
 abbrev pub fitsIn : ℕ → ℤ → Bool
@@ -25,7 +25,7 @@ abbrev pub sumOf : ℕ → ℕ → Bool → Flags → ℕ × Flags
 sumOf a b carry f = (
   byteSum a b carry,
   withV
-      (not (fitsIn 8 (signed 8 a +ℤ signed 8 b +ℤ pos (bit carry))))
+      (not (fitsIn 8 (signedValue 8 a +ℤ signedValue 8 b +ℤ pos (bit carry))))
       (withH (leb 16 (a % 16 + b % 16 + bit carry)) (withC (leb 256 (a + b + bit carry)) (withNZ 8 (byteSum a b carry) f))),
 )
 
@@ -38,7 +38,7 @@ abbrev pub differenceOf : ℕ → ℕ → ℕ → Bool → Flags → ℕ × Flag
 differenceOf w a b borrow f = (
   difference w a b borrow,
   withV
-      (not (fitsIn w (signed w a -ℤ signed w b -ℤ pos (bit borrow))))
+      (not (fitsIn w (signedValue w a -ℤ signedValue w b -ℤ pos (bit borrow))))
       (withC (ltb a (b + bit borrow)) (withNZ w (difference w a b borrow) f)),
 )
 
@@ -47,4 +47,4 @@ differenceOf w a b borrow f = (
 pub record Compared (w a b : ℕ) (f : Flags) : Type 0 where
   pub below : f .c ≡ ltb a b
   pub equal : f .z ≡ eqb a b
-  pub signed-below : differ (f .n) (f .v) ≡ ltZ (signed w a) (signed w b)
+  pub signed-below : unlike (f .n) (f .v) ≡ ltZ (signedValue w a) (signedValue w b)

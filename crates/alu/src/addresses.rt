@@ -6,6 +6,7 @@ ghost use Rattle.alu.specs.Addresses.{displacedBy};
 pub fn displaced(address: u16, offset: u8) -> u16
     ensures { λ r. ⌜ r ≡ displacedBy address offset ⌝ }
 {
+    // the offset's signed value, plus 128
     let lifted = offset.wrapping_add(128) as u16;
     address.wrapping_add(lifted).wrapping_sub(128)
 }

@@ -1,6 +1,7 @@
 // The six flags of the condition code register.
 ghost use mathlib.Core.Path.{_≡_};
-ghost use Rattle.alu.specs.Flags.{ccrByte, ccrFlags, fixedSet, withNZ};
+ghost use Prim.Native.Nat.{_+_, _<_};
+ghost use Rattle.alu.specs.Flags.{bitAt, ccrByte, ccrFlags, fixedSet, withNZ};
 
 // What an instruction tells of its result.
 #[derive(Clone, Copy, PartialEq, Eq, Debug)]
@@ -25,8 +26,14 @@ impl Flags {
         ensures value { λ r. ⌜ r ≡ ccrByte self ⌝ }
         ensures back { λ r. ⌜ ccrFlags r ≡ self ⌝ }
     {
+        64 + 32 + self.placed()
+    }
+
+    // The flags in their bits of the condition code byte, and bits 6 and 5 clear.
+    fn placed(self) -> u8
+        ensures { λ r. ⌜ 64 + 32 + r ≡ ccrByte self ⌝ }
+    {
         128 * self.v as u8
-            + 96
             + 16 * self.h as u8
             + 8 * self.i as u8
             + 4 * self.n as u8
@@ -40,12 +47,12 @@ impl Flags {
         ensures back { λ r. ⌜ ccrByte r ≡ fixedSet byte ⌝ }
     {
         Flags {
-            v: byte >= 128,
-            h: byte / 16 % 2 == 1,
-            i: byte / 8 % 2 == 1,
-            n: byte / 4 % 2 == 1,
-            z: byte / 2 % 2 == 1,
-            c: byte % 2 == 1,
+            v: is_set(byte, 7),
+            h: is_set(byte, 4),
+            i: is_set(byte, 3),
+            n: is_set(byte, 2),
+            z: is_set(byte, 1),
+            c: is_set(byte, 0),
         }
     }
 
@@ -70,4 +77,12 @@ impl Flags {
             ..self
         }
     }
+}
+
+// Whether a bit of a byte is set. A byte has no bit past its eighth.
+fn is_set(byte: u8, place: u32) -> bool
+    requires { ⌜ place < 8 ⌝ }
+    ensures { λ r. ⌜ r ≡ bitAt place byte ⌝ }
+{
+    (byte >> place) % 2 == 1
 }

@@ -3,7 +3,7 @@ ghost use mathlib.Core.Path.{_≡_};
 ghost use Prim.Native.Nat.{_+_, _*_};
 ghost use Rattle.alu.specs.Flags.{bit};
 ghost use lib.IntN.{pos, _+ℤ_};
-ghost use Rattle.alu.specs.Sums.{signed};
+ghost use Rattle.alu.specs.Sums.{signedValue};
 ghost use Rattle.alu.specs.Shifts.{shiftOf, shiftLeftOf, rotateLeftOf, shiftRightOf, rotateRightOf, arithmeticShiftRightOf};
 use crate::flags::Flags;
 
@@ -55,7 +55,7 @@ pub fn rotate_right(byte: u8, flags: Flags) -> (u8, Flags)
 // To the right, with the sign from the left.
 pub fn arithmetic_shift_right(byte: u8, flags: Flags) -> (u8, Flags)
     ensures value { λ r. ⌜ r ≡ arithmeticShiftRightOf byte flags ⌝ }
-    ensures whole { λ r. ⌜ signed 8 (r .0) +ℤ signed 8 (r .0) +ℤ pos (bit (r .1 .c)) ≡ signed 8 byte ⌝ }
+    ensures whole { λ r. ⌜ signedValue 8 (r .0) +ℤ signedValue 8 (r .0) +ℤ pos (bit (r .1 .c)) ≡ signedValue 8 byte ⌝ }
 {
     shifted(byte / 128 * 128 + byte / 2, byte % 2 == 1, flags)
 }

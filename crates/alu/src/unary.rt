@@ -2,7 +2,7 @@
 ghost use mathlib.Core.Path.{_≡_};
 ghost use mathlib.Core.Bool.{not};
 ghost use lib.IntN.{pos, negℤ, _+ℤ_, _-ℤ_};
-ghost use Rattle.alu.specs.Sums.{signed, fitsIn};
+ghost use Rattle.alu.specs.Sums.{signedValue, fitsIn};
 ghost use Rattle.alu.specs.Unary.{incrementOf, decrementOf, negateOf, complementOf, clearOf, swapped};
 use crate::flags::Flags;
 use crate::logic::test_byte;
@@ -10,7 +10,7 @@ use crate::logic::test_byte;
 // One more. C keeps.
 pub fn increment(byte: u8, flags: Flags) -> (u8, Flags)
     ensures value { λ r. ⌜ r ≡ incrementOf byte flags ⌝ }
-    ensures overflow { λ r. ⌜ r .1 .v ≡ not (fitsIn 8 (signed 8 byte +ℤ pos 1)) ⌝ }
+    ensures overflow { λ r. ⌜ r .1 .v ≡ not (fitsIn 8 (signedValue 8 byte +ℤ pos 1)) ⌝ }
 {
     let result = byte.wrapping_add(1);
     let flags = Flags {
@@ -23,7 +23,7 @@ pub fn increment(byte: u8, flags: Flags) -> (u8, Flags)
 // One less. C keeps.
 pub fn decrement(byte: u8, flags: Flags) -> (u8, Flags)
     ensures value { λ r. ⌜ r ≡ decrementOf byte flags ⌝ }
-    ensures overflow { λ r. ⌜ r .1 .v ≡ not (fitsIn 8 (signed 8 byte -ℤ pos 1)) ⌝ }
+    ensures overflow { λ r. ⌜ r .1 .v ≡ not (fitsIn 8 (signedValue 8 byte -ℤ pos 1)) ⌝ }
 {
     let result = byte.wrapping_sub(1);
     let flags = Flags {
@@ -36,7 +36,7 @@ pub fn decrement(byte: u8, flags: Flags) -> (u8, Flags)
 // Takes the byte from 0.
 pub fn negate(byte: u8, flags: Flags) -> (u8, Flags)
     ensures value { λ r. ⌜ r ≡ negateOf byte flags ⌝ }
-    ensures overflow { λ r. ⌜ r .1 .v ≡ not (fitsIn 8 (negℤ (signed 8 byte))) ⌝ }
+    ensures overflow { λ r. ⌜ r .1 .v ≡ not (fitsIn 8 (negℤ (signedValue 8 byte))) ⌝ }
 {
     let result = byte.wrapping_neg();
     let flags = Flags {

@@ -2,7 +2,7 @@
 use mathlib.Core.Bool.{Bool, true, false, cond, not, _&&_, _||_}
 use Prim.Native.Nat.{ℕ}
 use Rattle.alu.specs.declared.flags.Flags.{Flags}
-use Rattle.alu.specs.Flags.{differ}
+use Rattle.alu.specs.Flags.{unlike}
 use Rattle.alu.specs.Addresses.{displacedBy}
 use Rattle.isa.specs.declared.operation.Condition.{Condition}
 use Rattle.isa.specs.declared.operation.Condition.the-variants.{Bra, Brn, Bhi, Bls, Bcc, Bcs, Bne, Beq, Bhcc, Bhcs, Bpl, Bmi, Bmc, Bms, Bil, Bih, Bge, Blt, Bgt, Ble}
@@ -28,10 +28,10 @@ taken Bmc f lines = not (f .i)
 taken Bms f lines = f .i
 taken Bil f lines = isRaised lines 2
 taken Bih f lines = not (isRaised lines 2)
-taken Bge f lines = not (differ (f .n) (f .v))
-taken Blt f lines = differ (f .n) (f .v)
-taken Bgt f lines = not (f .z || differ (f .n) (f .v))
-taken Ble f lines = f .z || differ (f .n) (f .v)
+taken Bge f lines = not (unlike (f .n) (f .v))
+taken Blt f lines = unlike (f .n) (f .v)
+taken Bgt f lines = not (f .z || unlike (f .n) (f .v))
+taken Ble f lines = f .z || unlike (f .n) (f .v)
 
 -- a branch taken adds its offset to the address of the next instruction
 abbrev pub branched : Condition → ℕ → Registers → ℕ → Registers

@@ -1,3 +1,4 @@
+pub mod Course
 pub mod Declined
 pub mod Orders
 pub mod Phase

@@ -1,4 +1,5 @@
 // What does a whole session print?
+pub mod course;
 mod declined;
 mod orders;
 mod phase;

@@ -1,11 +1,11 @@
 -- What a line that is read without a refusal has.
-use mathlib.Core.Path.{_≡_, refl, sym, _∙_, subst}
-use mathlib.Core.Bool.{Bool, true, _&&_}
+use mathlib.Core.Path.{_≡_, refl, subst}
+use mathlib.Core.Bool.{true, _&&_}
 use mathlib.Core.List.{List}
 use Prim.Native.Nat.{ℕ, _+_, _-_, _*_, _≤_}
 use native.Mathlib.Omega.{arith}
 use lib.Dec.{eqb, leb}
-use lib.ListN.{length, getD, take, drop}
+use lib.ListN.{length, getD, drop}
 use Rattle.std.proofs.shelf.Lists.{length-take, length-drop}
 use Rattle.std.proofs.shelf.Tests.{and-parts, eqb-true, leb-true}
 use Rattle.std.specs.declared.result.Result.{Result}
@@ -14,8 +14,9 @@ use Rattle.srecord.specs.declared.record.Kind.{Kind}
 use Rattle.srecord.specs.declared.record.Kind.the-variants.{Header, Data, End}
 use Rattle.srecord.specs.declared.refusal.LineRefusal.{LineRefusal}
 use Rattle.srecord.specs.Digits.{byteAt, allHexadecimal}
-use Rattle.srecord.specs.Reader.{rightLength, rightChecksum, addressDigits, dataDigits, recordOfDigits, recordOfKind, recordOf}
-use Rattle.srecord.specs.Record.{Parsed, header-parsed, data-parsed, end-parsed, kindOf, countAllowed, parsedOf}
+use Rattle.srecord.specs.Load.{Formed}
+use Rattle.srecord.specs.Reader.{rightLength, rightChecksum, addressDigits, dataDigits, recordOfKind, recordOf}
+use Rattle.srecord.specs.Record.{Parsed, kindOf, countAllowed, parsedOf}
 use Rattle.srecord.proofs.Hexadecimal.{hexadecimal-take, hexadecimal-drop}
 use Rattle.srecord.proofs.Refusals.{passed}
 
@@ -49,12 +50,6 @@ line-read line parsed is =
     let letter = eqb (getD line 0 0) 83 in
     let begins = passed (leb 10 (length line) && letter) _ _ _ is in
     (leb-true 10 (length line) (and-parts (leb 10 (length line)) letter (begins .0) .0), digits-read _ _ _ (begins .1))
-
--- the digits of a data record can be taken for bytes
-abbrev pub Formed : Parsed → Type 0
-Formed (header-parsed digits) = Unit {0}
-Formed (data-parsed address digits) = (length address ≡ 4) × (allHexadecimal address ≡ true) × (allHexadecimal digits ≡ true)
-Formed (end-parsed address) = Unit {0}
 
 formed-of : (kind : Kind) (address digits : List ℕ) → length address ≡ 4 → allHexadecimal address ≡ true → allHexadecimal digits ≡ true → Formed (parsedOf kind address digits)
 formed-of Header address digits four a d = tt

@@ -5,8 +5,8 @@ use mathlib.Core.List.{List}
 use mathlib.Core.Logic.{⊎-elim}
 use Prim.Native.Nat.{ℕ, zero, suc, _+_, _-_, _*_, _/_, _<_}
 use native.Mathlib.Omega.{arith}
-use lib.Dec.{eqb, leb}
-use lib.ListN.{length, getD, take, drop}
+use lib.Dec.{leb}
+use lib.ListN.{length, getD, drop}
 use Rattle.std.proofs.shelf.Lists.{length-take, length-drop, getD-take, getD-drop}
 use Rattle.std.proofs.shelf.Tests.{cases-eq, cond-true, cond-false, eq-eqb, ne-eqb}
 use Rattle.std.specs.Results.{isOk}
@@ -17,7 +17,7 @@ use Rattle.srecord.specs.declared.record.Kind.{Kind}
 use Rattle.srecord.specs.declared.record.Kind.the-variants.{Data}
 use Rattle.srecord.specs.declared.refusal.LineRefusal.{LineRefusal}
 use Rattle.srecord.specs.Digits.{byteOf, byteAt}
-use Rattle.srecord.specs.Load.{addressOf, openAnswer, firstRefusal, openFrom, storedData, dataAnswer, readTaken, lineTaken, countIn, addressIn, DataSpelled}
+use Rattle.srecord.specs.Load.{addressOf, openAnswer, firstRefusal, openFrom, storedData, dataAnswer, readTaken, lineTaken, countIn, addressIn, DataLine, DataSpelled}
 use Rattle.srecord.specs.Reader.{addressDigits, dataDigits, recordOf}
 use Rattle.srecord.specs.Record.{Parsed, data-parsed, kindOf, parsedOf}
 use Rattle.srecord.proofs.Reading.{line-read}
@@ -83,7 +83,7 @@ module _ (line : List ℕ) where
       same-byte (data-character (2 * n) (omega arith) ∙ ap (λ k. getD line k 0) first) (data-character (2 * n + 1) (omega arith) ∙ ap (λ k. getD line k 0) second)
 
   -- a line of kind `1` that was read is a data record
-  data-read : (parsed : Parsed) → getD line 1 0 ≡ 49 → recordOf line ≡ Ok parsed → (length (drop 2 line) ≡ 2 + 2 * byteAt (drop 2 line) 0) × (recordOf line ≡ Ok (data-parsed (addressDigits (drop 2 line)) (dataDigits (drop 2 line))))
+  data-read : (parsed : Parsed) → DataLine line → recordOf line ≡ Ok parsed → (length (drop 2 line) ≡ 2 + 2 * byteAt (drop 2 line) 0) × (recordOf line ≡ Ok (data-parsed (addressDigits (drop 2 line)) (dataDigits (drop 2 line))))
   data-read parsed one is =
       let read = line-read line parsed is .1 in
       let both : _≡_ {A = Result Kind LineRefusal} (Ok (read .known)) (Ok Data) = sym (read .kind-is) ∙ ap kindOf one in
@@ -96,7 +96,7 @@ module _ (line : List ℕ) where
     taken-parsed (Err refusal) is = let never : _≡_ {A = ℕ} 0 1 = cc in absurd (omega arith)
 
     -- a data line that was taken had open cells, and has stored its bytes
-    data-taken : getD line 1 0 ≡ 49 → readTaken cells (recordOf line) .answer ≡ Ok tt → (openFrom cells (addressIn line) (countIn line - 3) ≡ Ok tt) × (readTaken cells (recordOf line) .memory ≡ storedData cells (addressIn line) (dataDigits (drop 2 line)) (countIn line - 3))
+    data-taken : DataLine line → readTaken cells (recordOf line) .answer ≡ Ok tt → (openFrom cells (addressIn line) (countIn line - 3) ≡ Ok tt) × (readTaken cells (recordOf line) .memory ≡ storedData cells (addressIn line) (dataDigits (drop 2 line)) (countIn line - 3))
     data-taken one done =
         let whole = taken-parsed (recordOf line) done in
         let read = data-read (whole .0) one (whole .1) in
@@ -108,7 +108,7 @@ module _ (line : List ℕ) where
         let size = data-size (drop 2 line) (read .0) ∙ ap (λ n. n - 3) count-is in
         (ap (λ n. openFrom cells (addressIn line) n) (sym size) ∙ (ap (λ a. openFrom cells a (length digits / 2)) (sym address-is) ∙ opened), memory ∙ (ap (λ a. storedData cells a digits (length digits / 2)) address-is ∙ ap (λ n. storedData cells (addressIn line) digits n) size))
 
-    pub data-spelled : (ended : Bool) (answer : Result Unit LineRefusal) (after : Cells) → answer ≡ lineTaken ended cells line .answer → after ≡ lineTaken ended cells line .memory → getD line 1 0 ≡ 49 → answer ≡ Ok tt → DataSpelled line cells after
+    pub data-spelled : (ended : Bool) (answer : Result Unit LineRefusal) (after : Cells) → answer ≡ lineTaken ended cells line .answer → after ≡ lineTaken ended cells line .memory → DataLine line → answer ≡ Ok tt → DataSpelled line cells after
     data-spelled true answer after answered left one ok = let never : _≡_ {A = ℕ} 0 1 = cc in absurd (omega arith)
     data-spelled false answer after answered left one ok =
         let taken = data-taken one (sym answered ∙ ok) in

@@ -12,13 +12,19 @@ use Rattle.bus.specs.Cell.{Cells, open-cell, storeAnswer, stored}
 use Rattle.bus.specs.declared.cell.BusRefusal.{BusRefusal}
 use Rattle.srecord.specs.declared.refusal.LineRefusal.{LineRefusal}
 use Rattle.srecord.specs.declared.refusal.LineRefusal.the-variants.{AfterEnd, PastTheEnd, NotOpen}
-use Rattle.srecord.specs.Digits.{byteOf, byteAt}
+use Rattle.srecord.specs.Digits.{allHexadecimal, byteOf, byteAt}
 use Rattle.srecord.specs.Reader.{recordOf}
 use Rattle.srecord.specs.Record.{Parsed, header-parsed, data-parsed, end-parsed}
 
 -- the address that four digits spell
 abbrev pub addressOf : List ℕ → ℕ
 addressOf digits = 256 * byteAt digits 0 + byteAt digits 1
+
+-- the address of a data record has four characters, and they and those of the data are digits
+abbrev pub Formed : Parsed → Type 0
+Formed (header-parsed digits) = Unit {0}
+Formed (data-parsed address digits) = (length address ≡ 4) × (allHexadecimal address ≡ true) × (allHexadecimal digits ≡ true)
+Formed (end-parsed address) = Unit {0}
 
 -- what the bus says of a byte for an address, as the refusal of a line
 abbrev pub openAnswer : ℕ → Result Unit BusRefusal → Result Unit LineRefusal
@@ -77,6 +83,10 @@ countIn line = byteOf (getD line 2 0) (getD line 3 0)
 -- the address of a line, which characters 4 to 7 spell
 abbrev pub addressIn : List ℕ → ℕ
 addressIn line = 256 * byteOf (getD line 4 0) (getD line 5 0) + byteOf (getD line 6 0) (getD line 7 0)
+
+-- a data line has the kind `1`
+abbrev pub DataLine : List ℕ → Type 0
+DataLine line = getD line 1 0 ≡ 49
 
 -- what a data line leaves: each cell of its data shows the byte that two characters spell, and every other cell keeps
 pub record DataSpelled (line : List ℕ) (before after : Cells) : Type 0 where

@@ -13,7 +13,7 @@ use Rattle.srecord.specs.Checksum.{checksumOf}
 use Rattle.srecord.specs.Digits.{allHexadecimal, byteAt}
 use Rattle.srecord.specs.Record.{Parsed, kindOf, countAllowed, parsedOf}
 
--- whether the count, which is the first byte that the digits spell, is that of the bytes that follow it
+-- the first byte is the count of those after it: a line of 4 + 2 × count characters has 2 + 2 × count digits
 abbrev pub rightLength : Kind → List ℕ → Bool
 rightLength kind digits = eqb (length digits) (2 + 2 * byteAt digits 0) && leb 3 (byteAt digits 0) && countAllowed kind (byteAt digits 0)
 

@@ -34,7 +34,7 @@ pub fn pair(high: u8, low: u8) -> Result<u8, LineRefusal>
 }
 
 // Refuses characters of which one is no digit.
-pub fn all_hexadecimal(characters: &[u8]) -> Result<(), LineRefusal>
+pub(crate) fn all_hexadecimal(characters: &[u8]) -> Result<(), LineRefusal>
     ensures { λ r. ⌜ r ≡ cond (allHexadecimal (now (characters .entry))) (Ok tt) (Err NotHexadecimal) ⌝ }
 {
     for character in characters {

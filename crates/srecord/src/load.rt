@@ -1,12 +1,13 @@
 // Taking a record line while a memory is loaded.
 ghost use mathlib.Core.Path.{_≡_};
-ghost use mathlib.Core.Bool.{true};
+ghost use mathlib.Core.Bool.{true, false};
 ghost use Prim.Native.Nat.{_+_, _/_, _≤_};
-ghost use lib.ListN.{length, getD};
+ghost use lib.ListN.{length};
 ghost use Rattle.std.specs.declared.result.Result.the-variants.{Ok};
 ghost use Rattle.bus.specs.Cell.{storeAnswer};
 ghost use Rattle.srecord.specs.Digits.{allHexadecimal};
-ghost use Rattle.srecord.specs.Load.{addressOf, openAnswer, openFrom, storedData, dataAnswer, dataMemory, lineTaken, DataSpelled};
+ghost use Rattle.srecord.specs.Load.{addressOf, openAnswer, openFrom, storedData, dataAnswer, dataMemory, recordTaken, lineTaken, Formed, DataLine, DataSpelled};
+ghost use Rattle.srecord.specs.Record.{parsedBy};
 use crate::digits::byte_at;
 use crate::reader::read_record;
 use crate::record::Record;
@@ -23,12 +24,23 @@ pub fn take_line<B: Bus>(bus: &mut B, ended: &mut bool, line: &[u8]) -> Result<(
     ensures answer { λ r. ⌜ r ≡ lineTaken (now (ended .entry)) (cells (now (bus .entry))) (now (line .entry)) .answer ⌝ }
     ensures ending { λ _. ⌜ now (ended .exit) ≡ lineTaken (now (ended .entry)) (cells (now (bus .entry))) (now (line .entry)) .isEnded ⌝ }
     ensures memory { λ _. ⌜ cells (now (bus .exit)) ≡ lineTaken (now (ended .entry)) (cells (now (bus .entry))) (now (line .entry)) .memory ⌝ }
-    ensures cells_spelled { λ r. ⌜ (getD (now (line .entry)) 1 0 ≡ 49 → r ≡ Ok tt → DataSpelled (now (line .entry)) (cells (now (bus .entry))) (cells (now (bus .exit)))) ⌝ }
+    ensures cells_spelled { λ r. ⌜ (DataLine (now (line .entry)) → r ≡ Ok tt → DataSpelled (now (line .entry)) (cells (now (bus .entry))) (cells (now (bus .exit)))) ⌝ }
 {
     if *ended {
         return Err(LineRefusal::AfterEnd);
     }
-    match read_record(line)? {
+    take_record(bus, ended, read_record(line)?)
+}
+
+// Takes what a line says.
+fn take_record<B: Bus>(bus: &mut B, ended: &mut bool, parsed: Record<'_>) -> Result<(), LineRefusal>
+    requires loading { ⌜ now ended ≡ false ⌝ }
+    requires formed { ⌜ Formed (parsedBy parsed) ⌝ }
+    ensures answer { λ r. ⌜ r ≡ recordTaken (cells (now (bus .entry))) (parsedBy (parsed .entry)) .answer ⌝ }
+    ensures ending { λ _. ⌜ now (ended .exit) ≡ recordTaken (cells (now (bus .entry))) (parsedBy (parsed .entry)) .isEnded ⌝ }
+    ensures memory { λ _. ⌜ cells (now (bus .exit)) ≡ recordTaken (cells (now (bus .entry))) (parsedBy (parsed .entry)) .memory ⌝ }
+{
+    match parsed {
         Record::Header { .. } => Ok(()),
         Record::Data { address, digits } => take_data(bus, address_of(address), digits),
         Record::End { .. } => {

@@ -42,7 +42,7 @@ fn read_digits(kind: Kind, digits: &[u8]) -> Result<Record<'_>, LineRefusal>
     Ok(kind.record(&digits[2..6], &digits[6..digits.len() - 2]))
 }
 
-// Whether the count is that of the bytes that follow it. A right one is then 3 or more.
+// Whether the count is that of the bytes that follow it. As there are eight digits or more, a right count is 3 or more.
 fn is_right_length(kind: Kind, digits: &[u8]) -> bool
     requires long { ⌜ 8 ≤ length (now digits) ⌝ }
     requires hexadecimal { ⌜ allHexadecimal (now digits) ≡ true ⌝ }

@@ -1,0 +1,89 @@
+// The session of the program `course`: from its input to all that it prints.
+ghost use mathlib.Core.Path.{_≡_};
+ghost use mathlib.Core.List.{[]};
+ghost use Prim.Native.Nat.{_≤_};
+ghost use lib.ListN.{length};
+ghost use Rattle.std.specs.Of.Vec.{vec-items};
+ghost use Rattle.std.specs.Vec.{made};
+ghost use Rattle.bus.specs.Open.{openCells};
+ghost use Rattle.console.specs.Lines.{linesOf};
+ghost use Rattle.console.specs.Row.{rowBytes};
+ghost use Rattle.session.specs.Course.{coursePrints, sessionPrints, zeroBytes, refusedStart};
+ghost use Rattle.session.specs.Phase.{shown, coreIn, records};
+ghost use Rattle.session.specs.Course.{start};
+use board::board::Board;
+use bus::open::OpenMemory;
+use console::first::CoreName;
+use console::first::core_name;
+use console::lines::next_line;
+use console::row::push_row;
+use isa::core08::Core;
+use isa::cpu08::Cpu08;
+use isa::hcs08::Hcs08;
+use std::alloc::AllocError;
+use std::alloc::Global;
+use crate::declined::Declined;
+use crate::phase::Phase;
+use crate::rows::blank_row;
+use bus::open::OpenMemoryBus;
+use isa::cpu08::Cpu08Core;
+use isa::hcs08::Hcs08Core;
+
+// Input past this many bytes is never looked at.
+pub const INPUT_LIMIT: usize = 32_768;
+
+// Every address of a board of `course` has a byte.
+const MEMORY_BYTES: usize = 65_536;
+
+// A first line that names no core is all that is answered.
+fn refuse_start(heap: Global) -> Result<Vec<u8>, AllocError>
+    ensures { λ r. ⌜ made r (λ text. vec-items text ≡ refusedStart) ⌝ }
+{
+    let mut text = Vec::new(heap);
+    push_row(&mut text, &blank_row(1, Declined::NotUnderstood))?;
+    Ok(text)
+}
+
+// A loading board over zeroed open memory, at clock 0.
+fn first_phase<C: Core + Drop>(heap: Global, core: C) -> Result<Phase<OpenMemory, C>, AllocError>
+    ensures shown { λ r. ⌜ made r (λ p. shown (λ m. openCells (vec-items (m .bytes))) p ≡ start) ⌝ }
+    ensures core { λ r. ⌜ made r (λ p. coreIn p ≡ core) ⌝ }
+{
+    let memory = OpenMemory::new(vec![in heap; 0u8; MEMORY_BYTES]?);
+    match Board::make(memory, core, 0) {
+        Ok(board) => Ok(Phase::Records(board.begin())),
+        Err(_) => unreachable(),
+    }
+}
+
+// Takes the lines after the first one.
+fn session<C: Core + Drop>(heap: Global, core: C, lines: &[u8]) -> Result<Vec<u8>, AllocError>
+    requires { ⌜ length (now lines) ≤ 32768 ⌝ }
+    ensures { λ r. ⌜ made r (λ text. vec-items text ≡ sessionPrints (table core) (entryFigure core) (linesOf (now (lines .entry)))) ⌝ }
+{
+    let mut text = Vec::new(heap);
+    let mut phase = first_phase(heap, core)?;
+    let mut number = 2;
+    let mut left = lines;
+    while let Some((line, rest)) = next_line(left) {
+        phase = phase.take_line(line, number, &mut text)?;
+        number += 1;
+        left = rest;
+    }
+    Ok(text)
+}
+
+// All that a session prints for its input.
+pub fn course(heap: Global, input: &[u8]) -> Result<Vec<u8>, AllocError>
+    ensures { λ r. ⌜ made r (λ text. vec-items text ≡ coursePrints (now (input .entry))) ⌝ }
+{
+    let seen = &input[0..input.len().min(INPUT_LIMIT)];
+    let Some((first, lines)) = next_line(seen) else {
+        return Ok(Vec::new(heap));
+    };
+    match core_name(first) {
+        Some(CoreName::Cpu08) => session(heap, Cpu08, lines),
+        Some(CoreName::Hcs08) => session(heap, Hcs08, lines),
+        None => refuse_start(heap),
+    }
+}

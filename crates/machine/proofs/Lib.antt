@@ -1,1 +1,2 @@
+pub mod LineSets
 pub mod Sequence

@@ -14,14 +14,16 @@ pub fn is_raised(lines: u32, line: u32) -> bool
 
 // The set with a line raised. A line from 32 on does not exist.
 pub fn with_raised(lines: u32, line: u32) -> u32
-    ensures { λ r. ⌜ r ≡ withRaised lines line ⌝ }
+    ensures value { λ r. ⌜ r ≡ withRaised lines line ⌝ }
+    ensures raised { λ r. ⌜ (line < 32 → (other : ℕ) → isRaised r other ≡ cond (eqb other line) true (isRaised lines other)) ⌝ }
 {
     if line < 32 { lines | 1 << line } else { lines }
 }
 
 // The set with a line dropped.
 pub fn with_dropped(lines: u32, line: u32) -> u32
-    ensures { λ r. ⌜ r ≡ withDropped lines line ⌝ }
+    ensures value { λ r. ⌜ r ≡ withDropped lines line ⌝ }
+    ensures dropped { λ r. ⌜ (line < 32 → (other : ℕ) → isRaised r other ≡ cond (eqb other line) false (isRaised lines other)) ⌝ }
 {
     if line < 32 {
         lines & !(1 << line)
@@ -32,7 +34,8 @@ pub fn with_dropped(lines: u32, line: u32) -> u32
 
 // The vector of the line that is served: the lowest one raised.
 pub fn served_vector(lines: u32) -> u16
-    ensures { λ r. ⌜ r ≡ vectorOf (servedLine lines) ⌝ }
+    ensures value { λ r. ⌜ r ≡ vectorOf (servedLine lines) ⌝ }
+    ensures lowest { λ _. ⌜ (0 < lines → Lowest lines (servedLine lines)) ⌝ }
 {
     65534 - 2 * lines.trailing_zeros() as u16
 }

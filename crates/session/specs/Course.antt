@@ -1,11 +1,12 @@
 -- All that the program `course` prints, as a function of its input.
-use mathlib.Core.Bool.{false}
+use mathlib.Core.Bool.{cond, false}
 use mathlib.Core.List.{List, [], _∷_}
 use Prim.Native.Nat.{ℕ}
-use lib.ListN.{take, replicate}
+use lib.Dec.{ltb}
+use lib.ListN.{take}
 use Rattle.std.specs.declared.option.Option.{Option}
 use Rattle.std.specs.declared.option.Option.the-variants.{Some, None}
-use Rattle.bus.specs.Open.{openCells}
+use Rattle.bus.specs.Cell.{Cells, open-cell, missing-cell}
 use Rattle.isa.specs.Law.{Table}
 use Rattle.isa.specs.Tables.{cpu08Table, cpu08Entry, hcs08Table, hcs08Entry}
 use Rattle.console.specs.declared.first.CoreName.{CoreName}
@@ -17,13 +18,13 @@ use Rattle.session.specs.declared.declined.Declined.the-variants.{NotUnderstoo
 use Rattle.session.specs.Phase.{Standpoint, records, printed}
 use Rattle.session.specs.Rows.{blankRow}
 
--- 65,536 zeros
-abbrev pub zeroBytes : List ℕ
-zeroBytes = replicate 65536 0
+-- every address is open and shows 0
+abbrev pub zeroed : Cells
+zeroed a = cond (ltb a 65536) (open-cell 0) missing-cell
 
 -- a loading board over zeroed open memory, at clock 0
 abbrev pub start : Standpoint
-start = records (record { clock = 0; stage = record { ended = false }; memory = openCells zeroBytes })
+start = records (record { clock = 0; stage = record { ended = false }; memory = zeroed })
 
 -- what is printed of the lines after the first one, on a core's table and entry figure
 abbrev pub sessionPrints : Table → ℕ → List (List ℕ) → List ℕ

@@ -1,16 +1,13 @@
 // The session of the program `course`: from its input to all that it prints.
 ghost use mathlib.Core.Path.{_≡_};
-ghost use mathlib.Core.List.{[]};
 ghost use Prim.Native.Nat.{_≤_};
 ghost use lib.ListN.{length};
 ghost use Rattle.std.specs.Of.Vec.{vec-items};
 ghost use Rattle.std.specs.Vec.{made};
 ghost use Rattle.bus.specs.Open.{openCells};
 ghost use Rattle.console.specs.Lines.{linesOf};
-ghost use Rattle.console.specs.Row.{rowBytes};
-ghost use Rattle.session.specs.Course.{coursePrints, sessionPrints, zeroBytes, refusedStart};
-ghost use Rattle.session.specs.Phase.{shown, coreIn, records};
-ghost use Rattle.session.specs.Course.{start};
+ghost use Rattle.session.specs.Course.{coursePrints, linesPrint, refusedStart, sessionPrints, start, zeroed};
+ghost use Rattle.session.specs.Phase.{coreIn, shown};
 use board::board::Board;
 use bus::open::OpenMemory;
 use console::first::CoreName;
@@ -44,12 +41,19 @@ fn refuse_start(heap: Global) -> Result<Vec<u8>, AllocError>
     Ok(text)
 }
 
+// Open memory with a zero at every address.
+fn zeroed_memory(heap: Global) -> Result<OpenMemory, AllocError>
+    ensures { λ r. ⌜ made r (λ m. openCells (vec-items (m .bytes)) ≡ zeroed) ⌝ }
+{
+    Ok(OpenMemory::new(vec![in heap; 0u8; MEMORY_BYTES]?))
+}
+
 // A loading board over zeroed open memory, at clock 0.
 fn first_phase<C: Core + Drop>(heap: Global, core: C) -> Result<Phase<OpenMemory, C>, AllocError>
     ensures shown { λ r. ⌜ made r (λ p. shown (λ m. openCells (vec-items (m .bytes))) p ≡ start) ⌝ }
     ensures core { λ r. ⌜ made r (λ p. coreIn p ≡ core) ⌝ }
 {
-    let memory = OpenMemory::new(vec![in heap; 0u8; MEMORY_BYTES]?);
+    let memory = zeroed_memory(heap)?;
     match Board::make(memory, core, 0) {
         Ok(board) => Ok(Phase::Records(board.begin())),
         Err(_) => unreachable(),
@@ -73,12 +77,12 @@ fn session<C: Core + Drop>(heap: Global, core: C, lines: &[u8]) -> Result<Vec<u8
     Ok(text)
 }
 
-// All that a session prints for its input.
-pub fn course(heap: Global, input: &[u8]) -> Result<Vec<u8>, AllocError>
-    ensures { λ r. ⌜ made r (λ text. vec-items text ≡ coursePrints (now (input .entry))) ⌝ }
+// Takes the first line, and on the core that it names the others.
+fn take_lines(heap: Global, text: &[u8]) -> Result<Vec<u8>, AllocError>
+    requires { ⌜ length (now text) ≤ 32768 ⌝ }
+    ensures { λ r. ⌜ made r (λ printed. vec-items printed ≡ linesPrint (linesOf (now (text .entry)))) ⌝ }
 {
-    let seen = &input[0..input.len().min(INPUT_LIMIT)];
-    let Some((first, lines)) = next_line(seen) else {
+    let Some((first, lines)) = next_line(text) else {
         return Ok(Vec::new(heap));
     };
     match core_name(first) {
@@ -86,4 +90,11 @@ pub fn course(heap: Global, input: &[u8]) -> Result<Vec<u8>, AllocError>
         Some(CoreName::Hcs08) => session(heap, Hcs08, lines),
         None => refuse_start(heap),
     }
+}
+
+// All that a session prints for its input.
+pub fn course(heap: Global, input: &[u8]) -> Result<Vec<u8>, AllocError>
+    ensures { λ r. ⌜ made r (λ text. vec-items text ≡ coursePrints (now (input .entry))) ⌝ }
+{
+    take_lines(heap, &input[0..input.len().min(INPUT_LIMIT)])
 }

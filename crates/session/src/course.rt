@@ -1,30 +1,30 @@
 // The session of the program `course`: from its input to all that it prints.
 ghost use mathlib.Core.Path.{_≡_};
 ghost use Prim.Native.Nat.{_≤_};
-ghost use lib.ListN.{length};
+ghost use lib.ListN.{length, take};
 ghost use Rattle.std.specs.Of.Vec.{vec-items};
 ghost use Rattle.std.specs.Vec.{made};
 ghost use Rattle.bus.specs.Open.{openCells};
 ghost use Rattle.console.specs.Lines.{linesOf};
 ghost use Rattle.session.specs.Course.{coursePrints, linesPrint, refusedStart, sessionPrints, start, zeroed};
 ghost use Rattle.session.specs.Phase.{coreIn, shown};
+use crate::declined::Declined;
+use crate::phase::Phase;
+use crate::rows::blank_row;
 use board::board::Board;
 use bus::open::OpenMemory;
+use bus::open::OpenMemoryBus;
 use console::first::CoreName;
 use console::first::core_name;
 use console::lines::next_line;
 use console::row::push_row;
 use isa::core08::Core;
 use isa::cpu08::Cpu08;
+use isa::cpu08::Cpu08Core;
 use isa::hcs08::Hcs08;
+use isa::hcs08::Hcs08Core;
 use std::alloc::AllocError;
 use std::alloc::Global;
-use crate::declined::Declined;
-use crate::phase::Phase;
-use crate::rows::blank_row;
-use bus::open::OpenMemoryBus;
-use isa::cpu08::Cpu08Core;
-use isa::hcs08::Hcs08Core;
 
 // Input past this many bytes is never looked at.
 pub const INPUT_LIMIT: usize = 32_768;
@@ -92,9 +92,21 @@ fn take_lines(heap: Global, text: &[u8]) -> Result<Vec<u8>, AllocError>
     }
 }
 
+// The part of the input that is looked at.
+fn looked_at(input: &[u8]) -> &[u8]
+    ensures part { λ r. ⌜ now r ≡ take 32768 (now (input .entry)) ⌝ }
+    ensures bound { λ r. ⌜ length (now r) ≤ 32768 ⌝ }
+{
+    if input.len() > INPUT_LIMIT {
+        &input[0..INPUT_LIMIT]
+    } else {
+        input
+    }
+}
+
 // All that a session prints for its input.
 pub fn course(heap: Global, input: &[u8]) -> Result<Vec<u8>, AllocError>
     ensures { λ r. ⌜ made r (λ text. vec-items text ≡ coursePrints (now (input .entry))) ⌝ }
 {
-    take_lines(heap, &input[0..input.len().min(INPUT_LIMIT)])
+    take_lines(heap, looked_at(input))
 }

@@ -7,6 +7,9 @@ ghost use Rattle.std.specs.Of.Vec.{vec-items};
 ghost use Rattle.std.specs.Results.{isOk};
 ghost use Rattle.std.specs.Vec.{made};
 ghost use Rattle.session.specs.Phase.{Said, shown, coreIn, recordLine, lineSaid, closing};
+use crate::declined::Declined;
+use crate::orders::take_order;
+use crate::rows::blank_row;
 use board::board::Board;
 use board::stages::Live;
 use board::stages::Loading;
@@ -14,9 +17,6 @@ use bus::traits::Bus;
 use console::row::push_row;
 use isa::core08::Core;
 use std::alloc::AllocError;
-use crate::declined::Declined;
-use crate::orders::take_order;
-use crate::rows::blank_row;
 
 #[derive(Drop)]
 pub enum Phase<B, C> {
@@ -36,7 +36,12 @@ fn close<B: Bus, C: Core>(board: Board<B, C, Loading>) -> Phase<B, C>
 }
 
 // Takes a record line; a refused one adds its row.
-fn take_record<B: Bus + Drop, C: Core + Drop>(board: Board<B, C, Loading>, line: &[u8], number: u32, text: &mut Vec<u8>) -> Result<Phase<B, C>, AllocError>
+fn take_record<B: Bus + Drop, C: Core + Drop>(
+    board: Board<B, C, Loading>,
+    line: &[u8],
+    number: u32,
+    text: &mut Vec<u8>,
+) -> Result<Phase<B, C>, AllocError>
     ensures shown { λ r. ⌜ made r (λ p. shown cells p ≡ recordLine number (now (line .entry)) (situation cells board) .1) ⌝ }
     ensures core { λ r. ⌜ made r (λ p. coreIn p ≡ board .core) ⌝ }
     ensures text { λ r. ⌜ vec-items (now (text .exit)) ≡ cond (isOk r) (vec-items (now (text .entry)) ++ recordLine number (now (line .entry)) (situation cells board) .0) (vec-items (now (text .entry))) ⌝ }
@@ -53,7 +58,12 @@ fn take_record<B: Bus + Drop, C: Core + Drop>(board: Board<B, C, Loading>, line:
 
 impl<B: Bus + Drop, C: Core + Drop> Phase<B, C> {
     // Takes a line of the session, and adds what is printed of it.
-    pub fn take_line(self, line: &[u8], number: u32, text: &mut Vec<u8>) -> Result<Phase<B, C>, AllocError>
+    pub fn take_line(
+        self,
+        line: &[u8],
+        number: u32,
+        text: &mut Vec<u8>,
+    ) -> Result<Phase<B, C>, AllocError>
         ensures shown { λ r. ⌜ made r (λ p. shown cells p ≡ lineSaid (table (coreIn self)) (entryFigure (coreIn self)) number (now (line .entry)) (shown cells self) .1) ⌝ }
         ensures core { λ r. ⌜ made r (λ p. coreIn p ≡ coreIn self) ⌝ }
         ensures text { λ r. ⌜ vec-items (now (text .exit)) ≡ cond (isOk r) (vec-items (now (text .entry)) ++ lineSaid (table (coreIn self)) (entryFigure (coreIn self)) number (now (line .entry)) (shown cells self) .0) (vec-items (now (text .entry))) ⌝ }

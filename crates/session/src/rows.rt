@@ -1,9 +1,9 @@
 // The rows of a session.
 ghost use mathlib.Core.Path.{_≡_};
 ghost use Rattle.session.specs.Rows.{blankRow, registerRow};
+use crate::declined::Declined;
 use console::row::RegisterRow;
 use machine::registers::Registers;
-use crate::declined::Declined;
 
 // What an order took: its steps, their cycles, and the number of what ended or refused it.
 #[derive(Clone, Copy)]
@@ -17,7 +17,17 @@ pub struct Outcome {
 pub fn blank_row(line: u32, declined: Declined) -> RegisterRow
     ensures { λ r. ⌜ r ≡ blankRow line declined ⌝ }
 {
-    RegisterRow { line, steps: 0, cycles: 0, refusal: declined.number(), pc: 0, a: 0, hx: 0, sp: 0, ccr: 0 }
+    RegisterRow {
+        line,
+        steps: 0,
+        cycles: 0,
+        refusal: declined.number(),
+        pc: 0,
+        a: 0,
+        hx: 0,
+        sp: 0,
+        ccr: 0,
+    }
 }
 
 // The row of an order.

@@ -25,12 +25,12 @@ returns g c =
     let after = c .obey-outcome .ensures .board ∙ ap (λ (o : Option Order). obey o .1) parsed in
     let shown = c .registers .ensures ∙ ap (λ (s : Situation Live). s .stage .registers) after in
     let row =
-        c .register-row .ensures
-        ∙ ap (λ (o : Outcome). registerRow (c .args .number) o (c .registers .result)) outcome
-        ∙ ap (registerRow (c .args .number) (obey (orderOf (c .args .line .now)) .0)) shown in
+    c .register-row .ensures
+    ∙ ap (λ (o : Outcome). registerRow (c .args .number) o (c .registers .result)) outcome
+    ∙ ap (registerRow (c .args .number) (obey (orderOf (c .args .line .now)) .0)) shown in
     let text = vec-items (c .args .text .now) in
     record {
       board = after;
       core = c .obey-outcome .ensures .core;
-      text = c .push-row .ensures ∙ ap (λ (r : RegisterRow). cond (isOk (c .push-row .result)) (text ++ rowBytes r) text) row
+      text = c .push-row .ensures ∙ ap (λ (r : RegisterRow). cond (isOk (c .push-row .result)) (text ++ rowBytes r) text) row;
     }

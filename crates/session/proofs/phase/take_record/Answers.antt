@@ -22,5 +22,5 @@ returns-in-Continue-push-row g c =
     record {
       shown = ap (λ (s : Said). s .1) said;
       core = c .line .ensures .core;
-      text = c .in-Continue-push-row .ensures tt ∙ ap (λ (bytes : List ℕ). vec-items (c .args .text .now) ++ bytes) row
+      text = c .in-Continue-push-row .ensures tt ∙ ap (λ (bytes : List ℕ). vec-items (c .args .text .now) ++ bytes) row;
     }

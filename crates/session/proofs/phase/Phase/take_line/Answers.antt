@@ -17,12 +17,12 @@ pub returns-in-Continue-take-order : need.returns-in-Continue-take-order
 returns-in-Continue-take-order g c =
     let self : Type 0 = Phase (g .B .Denot) (g .C .Denot) in
     let said =
-        ap
-        (λ (p : self). lineSaid (g .C·Core .table (coreIn p)) (g .C·Core .entryFigure (coreIn p)) (c .args .number) (c .args .line .now) (shown (g .B·Bus .cells) p))
-        (c .in-Orders .is) in
+    ap
+    (λ (p : self). lineSaid (g .C·Core .table (coreIn p)) (g .C·Core .entryFigure (coreIn p)) (c .args .number) (c .args .line .now) (shown (g .B·Bus .cells) p))
+    (c .in-Orders .is) in
     let ordered = c .in-Continue-take-order .ensures tt in
     record {
       shown = ap orders (ordered .board) ∙ sym (ap (λ (s : Said). s .1) said);
       core = ordered .core ∙ sym (ap (λ (p : self). coreIn p) (c .in-Orders .is));
-      text = ordered .text ∙ sym (ap (λ (s : Said). vec-items (c .args .text .now) ++ s .0) said)
+      text = ordered .text ∙ sym (ap (λ (s : Said). vec-items (c .args .text .now) ++ s .0) said);
     }

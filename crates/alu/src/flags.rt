@@ -4,7 +4,7 @@ ghost use Prim.Native.Nat.{_+_, _<_};
 ghost use Rattle.alu.specs.Flags.{bitAt, ccrByte, ccrFlags, fixedSet, withNZ};
 
 // What an instruction tells of its result.
-#[derive(Clone, Copy, PartialEq, Eq, Debug)]
+#[derive(Clone, Copy)]
 pub struct Flags {
     // overflow: the signed result does not fit
     pub v: bool,

@@ -5,7 +5,7 @@ ghost use lib.ListN.{length};
 ghost use Rattle.console.specs.Order.{orderOf, partsOf, numberOf, readDigits};
 
 // What a person asks for, with the number of steps or of the line.
-#[derive(Clone, Copy, PartialEq, Eq, Debug)]
+#[derive(Clone, Copy)]
 pub enum Order {
     Run(u32),
     Raise(u32),

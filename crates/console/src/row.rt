@@ -10,7 +10,7 @@ use crate::column::push_column;
 use std::alloc::AllocError;
 
 // The line that was obeyed, what it took, why it stopped, and the registers.
-#[derive(Clone, Copy, PartialEq, Eq, Debug)]
+#[derive(Clone, Copy)]
 pub struct RegisterRow {
     pub line: u32,
     pub steps: u32,

@@ -1,7 +1,7 @@
 // The operations, grouped as the instruction set summaries group them. Names are the mnemonics.
 
 // When a branch is taken.
-#[derive(Clone, Copy, PartialEq, Eq, Debug)]
+#[derive(Clone, Copy)]
 pub enum Condition {
     Bra,
     Brn,
@@ -26,7 +26,7 @@ pub enum Condition {
 }
 
 // A register combined with an operand byte.
-#[derive(Clone, Copy, PartialEq, Eq, Debug)]
+#[derive(Clone, Copy)]
 pub enum RegisterMemory {
     Sub,
     Cmp,
@@ -43,7 +43,7 @@ pub enum RegisterMemory {
 }
 
 // A byte read, changed and put back where it came from.
-#[derive(Clone, Copy, PartialEq, Eq, Debug)]
+#[derive(Clone, Copy)]
 pub enum ReadModifyWrite {
     Neg,
     Com,
@@ -59,21 +59,21 @@ pub enum ReadModifyWrite {
 }
 
 // H:X with an operand word.
-#[derive(Clone, Copy, PartialEq, Eq, Debug)]
+#[derive(Clone, Copy)]
 pub enum WordOperation {
     Ldhx,
     Cphx,
 }
 
 // A pointer moved by a signed operand byte.
-#[derive(Clone, Copy, PartialEq, Eq, Debug)]
+#[derive(Clone, Copy)]
 pub enum Pointer {
     Ais,
     Aix,
 }
 
 // Registers and flags alone.
-#[derive(Clone, Copy, PartialEq, Eq, Debug)]
+#[derive(Clone, Copy)]
 pub enum RegisterOnly {
     Mul,
     Div,
@@ -95,14 +95,14 @@ pub enum RegisterOnly {
 }
 
 // The processor comes to rest.
-#[derive(Clone, Copy, PartialEq, Eq, Debug)]
+#[derive(Clone, Copy)]
 pub enum Standstill {
     Stop,
     Wait,
     Bgnd,
 }
 
-#[derive(Clone, Copy, PartialEq, Eq, Debug)]
+#[derive(Clone, Copy)]
 pub enum Operation {
     Branch(Condition),
     Combine(RegisterMemory),

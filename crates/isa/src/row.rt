@@ -2,11 +2,9 @@
 ghost use mathlib.Core.Path.{_≡_};
 ghost use Rattle.isa.specs.Row.{rowOf};
 use crate::operation::Operation;
-use crate::operation::OperationDebug;
-use crate::operation::OperationPartialEq;
 
 // How an instruction finds its operand.
-#[derive(Clone, Copy, PartialEq, Eq, Debug)]
+#[derive(Clone, Copy)]
 pub enum Mode {
     // none, or the registers that the operation names
     Inherent,
@@ -21,7 +19,7 @@ pub enum Mode {
 }
 
 // The page of an opcode: the second one follows `$9E`.
-#[derive(Clone, Copy, PartialEq, Eq, Debug)]
+#[derive(Clone, Copy)]
 pub enum Page {
     First,
     Second,
@@ -31,7 +29,7 @@ pub enum Page {
 pub type Entry = Option<(Operation, Mode, u8, u8)>;
 
 // An instruction: what it does, how it finds its operand, its length in bytes, and what it costs.
-#[derive(Clone, Copy, PartialEq, Eq, Debug)]
+#[derive(Clone, Copy)]
 pub struct Row {
     pub operation: Operation,
     pub mode: Mode,

@@ -6,14 +6,14 @@ use bus::cell::BusRefusal;
 use bus::traits::Bus;
 
 // Why an instruction cannot go on: the machine then halts.
-#[derive(Clone, Copy, PartialEq, Eq, Debug)]
+#[derive(Clone, Copy)]
 pub enum Fault {
     MissingCell,
     NoInstruction,
 }
 
 // Reads the byte that a cell shows.
-pub fn read_cell<B: Bus>(bus: &mut B, address: u16) -> Result<u8, Fault>
+pub(crate) fn read_cell<B: Bus>(bus: &mut B, address: u16) -> Result<u8, Fault>
     ensures { λ r. ⌜ (r, cells (now (bus .exit))) ≡ perform (read address done) (cells (now (bus .entry))) ⌝ }
 {
     match bus.read(address) {
@@ -23,7 +23,7 @@ pub fn read_cell<B: Bus>(bus: &mut B, address: u16) -> Result<u8, Fault>
 }
 
 // Stores a byte; a guarded cell drops it.
-pub fn store_cell<B: Bus>(bus: &mut B, address: u16, byte: u8) -> Result<(), Fault>
+pub(crate) fn store_cell<B: Bus>(bus: &mut B, address: u16, byte: u8) -> Result<(), Fault>
     ensures { λ r. ⌜ (r, cells (now (bus .exit))) ≡ perform (store address byte (done tt)) (cells (now (bus .entry))) ⌝ }
 {
     match bus.store(address, byte) {

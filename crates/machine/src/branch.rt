@@ -8,7 +8,7 @@ use alu::flags::Flags;
 use isa::operation::Condition;
 
 // Whether a branch is taken.
-pub fn is_taken(condition: Condition, flags: Flags, lines: u32) -> bool
+pub(crate) fn is_taken(condition: Condition, flags: Flags, lines: u32) -> bool
     ensures { λ r. ⌜ r ≡ taken condition flags lines ⌝ }
 {
     match condition {
@@ -36,7 +36,12 @@ pub fn is_taken(condition: Condition, flags: Flags, lines: u32) -> bool
 }
 
 // Goes on at the offset from the next instruction, where the branch is taken.
-pub fn branch(condition: Condition, offset: u8, registers: Registers, lines: u32) -> Registers
+pub(crate) fn branch(
+    condition: Condition,
+    offset: u8,
+    registers: Registers,
+    lines: u32,
+) -> Registers
     ensures { λ r. ⌜ r ≡ branched condition offset registers lines ⌝ }
 {
     if is_taken(condition, registers.flags, lines) {

@@ -10,7 +10,7 @@ use alu::sums::add;
 use alu::sums::subtract;
 use isa::operation::RegisterMemory;
 
-pub fn combine(operation: RegisterMemory, byte: u8, registers: Registers) -> Registers
+pub(crate) fn combine(operation: RegisterMemory, byte: u8, registers: Registers) -> Registers
     ensures { λ r. ⌜ r ≡ combined operation byte registers ⌝ }
 {
     let a = registers.a;

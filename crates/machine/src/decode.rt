@@ -15,7 +15,7 @@ const PREFIX: u8 = 0x9E;
 
 // A row, and the address of its first operand byte.
 #[derive(Clone, Copy)]
-pub struct Decoded {
+pub(crate) struct Decoded {
     pub row: Row,
     pub operand: u16,
 }
@@ -30,7 +30,7 @@ fn found(row: Option<Row>, operand: u16) -> Result<Decoded, Fault>
 }
 
 // Reads the opcode, behind its prefix if it has one, and finds its row.
-pub fn decode<B: Bus, C: Core>(bus: &mut B, core: &C, pc: u16) -> Result<Decoded, Fault>
+pub(crate) fn decode<B: Bus, C: Core>(bus: &mut B, core: &C, pc: u16) -> Result<Decoded, Fault>
     ensures { λ r. ⌜ (r, cells (now (bus .exit))) ≡ perform (decoded (table (now (core .entry))) pc) (cells (now (bus .entry))) ⌝ }
 {
     let opcode = read_cell(bus, pc)?;
@@ -43,7 +43,7 @@ pub fn decode<B: Bus, C: Core>(bus: &mut B, core: &C, pc: u16) -> Result<Decoded
 }
 
 // The operand byte of an instruction that takes one.
-pub fn operand_byte<B: Bus>(bus: &mut B, mode: Mode, operand: u16) -> Result<u8, Fault>
+pub(crate) fn operand_byte<B: Bus>(bus: &mut B, mode: Mode, operand: u16) -> Result<u8, Fault>
     ensures { λ r. ⌜ (r, cells (now (bus .exit))) ≡ perform (operandByte mode operand) (cells (now (bus .entry))) ⌝ }
 {
     match mode {

@@ -1,12 +1,12 @@
 // The interrupt lines, as a set of 32 bits: bit n is line n.
 ghost use mathlib.Core.Path.{_≡_};
 ghost use mathlib.Core.Bool.{true, false, cond};
-ghost use Prim.Native.Nat.{ℕ, _<_};
+ghost use Prim.Native.Nat.{ℕ, _<_, _≤_};
 ghost use lib.Dec.{eqb};
 ghost use Rattle.machine.specs.Lines.{isRaised, withRaised, withDropped, servedLine, vectorOf, Lowest};
 
 // Whether a line is raised.
-pub fn is_raised(lines: u32, line: u32) -> bool
+pub(crate) fn is_raised(lines: u32, line: u32) -> bool
     ensures { λ r. ⌜ r ≡ isRaised lines line ⌝ }
 {
     line < 32 && (lines >> line) % 2 == 1
@@ -32,10 +32,26 @@ pub fn with_dropped(lines: u32, line: u32) -> u32
     }
 }
 
-// The vector of the line that is served: the lowest one raised.
-pub fn served_vector(lines: u32) -> u16
-    ensures value { λ r. ⌜ r ≡ vectorOf (servedLine lines) ⌝ }
-    ensures lowest { λ _. ⌜ (0 < lines → Lowest lines (servedLine lines)) ⌝ }
+// The line that is served: the lowest one raised.
+fn served_line(lines: u32) -> u32
+    ensures value { λ r. ⌜ r ≡ servedLine lines ⌝ }
+    ensures bound { λ r. ⌜ r ≤ 32 ⌝ }
+    ensures lowest { λ r. ⌜ (0 < lines → Lowest lines r) ⌝ }
 {
-    65534 - 2 * lines.trailing_zeros() as u16
+    lines.trailing_zeros()
+}
+
+// Where a line's vector stands.
+fn vector(line: u32) -> u16
+    requires { ⌜ line ≤ 32 ⌝ }
+    ensures { λ r. ⌜ r ≡ vectorOf line ⌝ }
+{
+    65534 - 2 * line as u16
+}
+
+// The vector of the line that is served.
+pub(crate) fn served_vector(lines: u32) -> u16
+    ensures { λ r. ⌜ r ≡ vectorOf (servedLine lines) ⌝ }
+{
+    vector(served_line(lines))
 }

@@ -15,7 +15,7 @@ use alu::unary::increment;
 use alu::unary::negate;
 use isa::operation::ReadModifyWrite;
 
-pub fn modify(operation: ReadModifyWrite, byte: u8, flags: Flags) -> (u8, Flags)
+pub(crate) fn modify(operation: ReadModifyWrite, byte: u8, flags: Flags) -> (u8, Flags)
     ensures { λ r. ⌜ r ≡ modified operation byte flags ⌝ }
 {
     match operation {

@@ -38,7 +38,7 @@ fn quotient(registers: Registers) -> Registers
     }
 }
 
-pub fn register_only(operation: RegisterOnly, registers: Registers) -> Registers
+pub(crate) fn register_only(operation: RegisterOnly, registers: Registers) -> Registers
     ensures { λ r. ⌜ r ≡ registered operation registers ⌝ }
 {
     let a = registers.a;

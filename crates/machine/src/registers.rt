@@ -4,14 +4,12 @@ ghost use Prim.Native.Nat.{ℕ};
 ghost use Rattle.alu.specs.Words.{wordOf};
 ghost use Rattle.machine.specs.Registers.{withA, withX, withH, withHx, withSp, withPc, withFlags};
 use alu::flags::Flags;
-use alu::flags::FlagsDebug;
-use alu::flags::FlagsPartialEq;
 use alu::words::high_byte;
 use alu::words::low_byte;
 use alu::words::word;
 
 // The accumulator, the index register H:X by its halves, the stack pointer, the program counter and the flags.
-#[derive(Clone, Copy, PartialEq, Eq, Debug)]
+#[derive(Clone, Copy)]
 pub struct Registers {
     pub a: u8,
     pub h: u8,
@@ -30,7 +28,7 @@ impl Registers {
     }
 
     // These registers with what an operation left for A and the flags.
-    pub fn with_a(self, outcome: (u8, Flags)) -> Registers
+    pub(crate) fn with_a(self, outcome: (u8, Flags)) -> Registers
         ensures { λ r. ⌜ r ≡ withA outcome self ⌝ }
     {
         let (a, flags) = outcome;
@@ -38,7 +36,7 @@ impl Registers {
     }
 
     // These registers with what an operation left for X and the flags.
-    pub fn with_x(self, outcome: (u8, Flags)) -> Registers
+    pub(crate) fn with_x(self, outcome: (u8, Flags)) -> Registers
         ensures { λ r. ⌜ r ≡ withX outcome self ⌝ }
     {
         let (x, flags) = outcome;
@@ -46,7 +44,7 @@ impl Registers {
     }
 
     // These registers with what an operation left for H and the flags.
-    pub fn with_h(self, outcome: (u8, Flags)) -> Registers
+    pub(crate) fn with_h(self, outcome: (u8, Flags)) -> Registers
         ensures { λ r. ⌜ r ≡ withH outcome self ⌝ }
     {
         let (h, flags) = outcome;
@@ -54,7 +52,7 @@ impl Registers {
     }
 
     // These registers with H:X as given.
-    pub fn with_hx(self, word: u16) -> Registers
+    pub(crate) fn with_hx(self, word: u16) -> Registers
         ensures { λ r. ⌜ r ≡ withHx word self ⌝ }
     {
         Registers {
@@ -65,21 +63,21 @@ impl Registers {
     }
 
     // These registers with the stack pointer as given.
-    pub fn with_sp(self, sp: u16) -> Registers
+    pub(crate) fn with_sp(self, sp: u16) -> Registers
         ensures { λ r. ⌜ r ≡ withSp sp self ⌝ }
     {
         Registers { sp, ..self }
     }
 
     // These registers with the flags as given.
-    pub fn with_flags(self, flags: Flags) -> Registers
+    pub(crate) fn with_flags(self, flags: Flags) -> Registers
         ensures { λ r. ⌜ r ≡ withFlags flags self ⌝ }
     {
         Registers { flags, ..self }
     }
 
     // These registers with the program counter as given.
-    pub fn with_pc(self, pc: u16) -> Registers
+    pub(crate) fn with_pc(self, pc: u16) -> Registers
         ensures { λ r. ⌜ r ≡ withPc pc self ⌝ }
     {
         Registers { pc, ..self }

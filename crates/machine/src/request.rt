@@ -16,7 +16,7 @@ use bus::traits::Bus;
 use isa::core08::Core;
 
 // Pushes a word, its low byte first.
-pub fn push_word<B: Bus>(bus: &mut B, sp: u16, word: u16) -> Result<(), Fault>
+pub(crate) fn push_word<B: Bus>(bus: &mut B, sp: u16, word: u16) -> Result<(), Fault>
     ensures { λ r. ⌜ (r, cells (now (bus .exit))) ≡ perform (pushedWord sp word) (cells (now (bus .entry))) ⌝ }
 {
     store_cell(bus, sp, low_byte(word))?;
@@ -33,7 +33,7 @@ fn push_operands<B: Bus>(bus: &mut B, sp: u16, registers: Registers) -> Result<(
 }
 
 // Pushes the program counter, X, A and the condition codes.
-pub fn push_frame<B: Bus>(bus: &mut B, registers: Registers) -> Result<(), Fault>
+pub(crate) fn push_frame<B: Bus>(bus: &mut B, registers: Registers) -> Result<(), Fault>
     ensures { λ r. ⌜ (r, cells (now (bus .exit))) ≡ perform (pushedFrame registers) (cells (now (bus .entry))) ⌝ }
 {
     push_word(bus, registers.sp, registers.pc)?;

@@ -1,6 +1,7 @@
 // Runs of a live board.
 ghost use mathlib.Core.Path.{_≡_};
-ghost use Prim.Native.Nat.{_≤_};
+ghost use Prim.Native.Nat.{_+_, _≤_};
+ghost use Rattle.std.specs.Vec.{made};
 ghost use Rattle.board.specs.Situation.{situation};
 ghost use Rattle.board.specs.Run.{runTaken, runGiven, endNumber};
 use crate::board::Board;
@@ -27,6 +28,8 @@ impl<B: Bus, C: Core> Board<B, C, Live> {
     pub fn run(&mut self, budget: u32) -> Result<(u32, u32, u8), Refusal>
         ensures meaning { λ r. ⌜ (r, situation cells (now (self .exit))) ≡ runGiven (table (now (self .entry) .core)) (entryFigure (now (self .entry) .core)) budget (situation cells (now (self .entry))) ⌝ }
         ensures core { λ _. ⌜ now (self .exit) .core ≡ now (self .entry) .core ⌝ }
+        ensures clock_is_start_plus_cycles { λ r. ⌜ made r (λ ran. now (self .exit) .clock ≡ now (self .entry) .clock + ran .1) ⌝ }
+        ensures steps_within_budget { λ r. ⌜ made r (λ ran. ran .0 ≤ budget) ⌝ }
     {
         if budget > MOST_STEPS {
             return Err(Refusal::BudgetTooLarge);
@@ -38,6 +41,8 @@ impl<B: Bus, C: Core> Board<B, C, Live> {
         requires { ⌜ budget ≤ 65535 ⌝ }
         ensures meaning { λ r. ⌜ (r, situation cells (now (self .exit))) ≡ runTaken (table (now (self .entry) .core)) (entryFigure (now (self .entry) .core)) budget (situation cells (now (self .entry))) ⌝ }
         ensures core { λ _. ⌜ now (self .exit) .core ≡ now (self .entry) .core ⌝ }
+        ensures clock_is_start_plus_cycles { λ r. ⌜ now (self .exit) .clock ≡ now (self .entry) .clock + r .1 ⌝ }
+        ensures steps_within_budget { λ r. ⌜ r .0 ≤ budget ⌝ }
     {
         let mut steps = 0;
         let mut cycles = 0;

@@ -9,7 +9,9 @@ use Rattle.board.specs.Live.{stepTaken}
 use Rattle.board.specs.Refusal.{refusalNumber}
 use Rattle.board.specs.Run.{Ran, runTaken, putBefore, endNumber}
 use Rattle.board.specs.Situation.{Situation, situation}
+use Rattle.board.proofs.RunLaws.{told}
 use Rattle.board.proofs.Runs.{again, refused, spentAll}
+use Rattle.board.proofs.run.Board+B+C+Live.run_steps.Given as given
 use Rattle.board.proofs.run.Board+B+C+Live.run_steps.Needs as need
 use Rattle.board.proofs.run.Board+B+C+Live.run_steps.Needs.{then-steps-budget, else-steps-budget·in-Err}
 
@@ -43,8 +45,10 @@ loop-steps-again g c =
     )
 
 -- the loop breaks with the budget spent, or with the refusal of a step
-pub returns : need.returns
-returns g c =
+ended : (g : given.Over) (c : need.After-end-number g) →
+    (_≡_ {A = Ran} ((c .loop-steps .steps, c .loop-steps .cycles, c .end-number .result), situation {C = g .C .Denot} {S = Live} (g .B·Bus .cells) (c .if-steps-budget .self)) (runTaken (g .C·Core .table (c .args .self .now .core)) (g .C·Core .entryFigure (c .args .self .now .core)) (c .args .budget) (situation {C = g .C .Denot} {S = Live} (g .B·Bus .cells) (c .args .self .now))))
+    × (c .if-steps-budget .self .core ≡ c .args .self .now .core)
+ended g c =
     let core = c .args .self .now .core in
     let at = situation {C = g .C .Denot} {S = Live} (g .B·Bus .cells) in
     elim (c .if-steps-budget .came) [
@@ -62,7 +66,7 @@ returns g c =
           (at (c .loop-steps .self))
           (c .loop-steps .inv .3)
           (w .if-steps-budget .taken) in
-          record { meaning = cc (number, whole, w .self-is); core = cc (w .self-is, c .loop-steps .inv .2) }
+          (cc (number, whole, w .self-is), cc (w .self-is, c .loop-steps .inv .2))
       | else-steps-budget·in-Err w ↦
           let number : c .end-number .result ≡ refusalNumber (w .in-Err .refusal) = c .end-number .ensures ∙ ap endNumber (w .ended-is) in
           let more : c .loop-steps .steps < c .args .budget = omega arith in
@@ -85,5 +89,21 @@ returns g c =
           (w .in-Err .refusal)
           more
           stepped in
-          record { meaning = cc (number, whole, w .self-is); core = cc (w .self-is, w .step .ensures .core, c .loop-steps .inv .2) }
+          (cc (number, whole, w .self-is), cc (w .self-is, w .step .ensures .core, c .loop-steps .inv .2))
     ]
+
+pub returns : need.returns
+returns g c =
+    let core = c .args .self .now .core in
+    let at = situation {C = g .C .Denot} {S = Live} (g .B·Bus .cells) in
+    let e = ended g c in
+    let laws =
+    told
+    (g .C·Core .table core)
+    (g .C·Core .entryFigure core)
+    (c .args .budget)
+    (at (c .args .self .now))
+    (at (c .if-steps-budget .self))
+    (c .loop-steps .steps, c .loop-steps .cycles, c .end-number .result)
+    (e .0) in
+    record { meaning = e .0; core = e .1; clock-is-start-plus-cycles = laws .0; steps-within-budget = laws .1 }

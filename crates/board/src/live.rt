@@ -1,19 +1,32 @@
-// A live board: it takes steps, and its lines are raised and dropped.
+// A live board takes steps.
 ghost use mathlib.Core.Path.{_≡_};
-ghost use Rattle.machine.specs.Access.{perform};
-ghost use Rattle.board.specs.Situation.{situation};
-ghost use Rattle.board.specs.Live.{stepTaken};
+ghost use Prim.Native.Nat.{_≤_};
+ghost use Rattle.std.specs.declared.result.Result.the-variants.{Ok};
+ghost use Rattle.board.specs.Situation.{clockLimit, situation};
+ghost use Rattle.board.specs.Live.{settled, stepTaken};
 use crate::board::Board;
 use crate::board::CLOCK_LIMIT;
 use crate::refusal::Refusal;
 use crate::stages::Live;
 use bus::traits::Bus;
 use isa::core08::Core;
+use machine::access::Fault;
 use machine::execute::Executed;
 use machine::execute::execute;
 use machine::registers::Registers;
 use machine::request::enter;
 use machine::standing::Standing;
+
+// Waiting, a cycle passes.
+fn idle(registers: Registers) -> Executed
+    ensures { λ r. ⌜ r ≡ record { registers = registers; standing = Standing.Waiting; cycles = 1 } ⌝ }
+{
+    Executed {
+        registers,
+        standing: Standing::Waiting,
+        cycles: 1,
+    }
+}
 
 impl<B: Bus, C: Core> Board<B, C, Live> {
     // Takes a step, and answers its cycles.
@@ -21,50 +34,37 @@ impl<B: Bus, C: Core> Board<B, C, Live> {
         ensures meaning { λ r. ⌜ (r, situation cells (now (self .exit))) ≡ stepTaken (table (now (self .entry) .core)) (entryFigure (now (self .entry) .core)) (situation cells (now (self .entry))) ⌝ }
         ensures core { λ _. ⌜ now (self .exit) .core ≡ now (self .entry) .core ⌝ }
     {
-        let Live {
-            registers,
-            standing,
-            lines,
-        } = self.stage;
-        let executed = match (standing, lines != 0) {
+        let live = self.stage;
+        let registers = live.registers;
+        let executed = match (live.standing, live.lines != 0) {
             (Standing::Halted, _) => return Err(Refusal::BoardHalted),
             _ if self.clock > CLOCK_LIMIT => return Err(Refusal::ClockPastLimit),
             (Standing::Stopped, false) => return Err(Refusal::StoppedWithoutLine),
-            (Standing::Waiting, false) => Ok(Executed {
-                registers,
-                standing,
-                cycles: 1,
-            }),
-            (Standing::Waiting, true) => enter(&mut self.bus, &self.core, registers, lines),
-            (Standing::Stopped, true) => enter(&mut self.bus, &self.core, registers, lines),
-            (Standing::Running, true) if !registers.flags.i => enter(
-                &mut self.bus,
-                &self.core,
-                registers,
-                lines,
-            ),
-            (Standing::Running, _) => execute(&mut self.bus, &self.core, registers, lines),
+            (Standing::Waiting | Standing::Stopped, true) => {
+                enter(&mut self.bus, &self.core, registers, live.lines)
+            }
+            (Standing::Running, true) if !registers.flags.i => {
+                enter(&mut self.bus, &self.core, registers, live.lines)
+            }
+            (Standing::Waiting, false) => Ok(idle(registers)),
+            (Standing::Running, _) => execute(&mut self.bus, &self.core, registers, live.lines),
         };
-        match executed {
-            Ok(
-                Executed {
-                    registers,
-                    standing,
-                    cycles,
-                },
-            ) => {
-                self.clock += u64::from(cycles);
-                self.stage = Live {
-                    registers,
-                    standing,
-                    lines,
-                };
-                Ok(cycles)
-            }
-            Err(_) => {
-                self.stage.standing = Standing::Halted;
-                Ok(0)
-            }
-        }
+        Ok(self.settle(executed))
+    }
+
+    // Keeps what a step left. At a fault the board halts with its registers as they were, at 0 cycles.
+    fn settle(&mut self, executed: Result<Executed, Fault>) -> u8
+        requires { ⌜ now self .clock ≤ clockLimit ⌝ }
+        ensures meaning { λ r. ⌜ (Ok r, situation cells (now (self .exit))) ≡ settled (situation cells (now (self .entry))) (executed, cells (now (self .entry) .bus)) ⌝ }
+        ensures core { λ _. ⌜ now (self .exit) .core ≡ now (self .entry) .core ⌝ }
+    {
+        let Ok(left) = executed else {
+            self.stage.standing = Standing::Halted;
+            return 0;
+        };
+        self.clock += u64::from(left.cycles);
+        self.stage.registers = left.registers;
+        self.stage.standing = left.standing;
+        left.cycles
     }
 }

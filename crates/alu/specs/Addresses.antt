@@ -1,5 +1,5 @@
 -- An address moved by a signed byte.
-use Prim.Native.Nat.{ℕ, _-_, _%_, _^_}
+use Prim.Native.Nat.{ℕ, _-_, _%_}
 use lib.IntN.{ℤ, pos, negsuc, _+ℤ_}
 use Rattle.alu.specs.Sums.{signedValue}
 

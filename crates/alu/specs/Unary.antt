@@ -1,5 +1,5 @@
 -- What is done to one byte.
-use mathlib.Core.Bool.{true, false, not}
+use mathlib.Core.Bool.{true, not}
 use Prim.Native.Nat.{ℕ, _+_, _-_, _*_, _/_, _%_}
 use lib.Dec.{eqb}
 use Rattle.alu.specs.declared.flags.Flags.{Flags}

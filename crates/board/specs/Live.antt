@@ -1,5 +1,5 @@
 -- A step of a live board.
-use mathlib.Core.Bool.{Bool, true, false, cond, not, _&&_}
+use mathlib.Core.Bool.{Bool, cond, not, _&&_}
 use Prim.Native.Nat.{ℕ, _+_}
 use lib.Dec.{eqb, ltb}
 use Rattle.std.specs.declared.option.Option.{Option}
@@ -10,13 +10,12 @@ use Rattle.bus.specs.Cell.{Cells}
 use Rattle.isa.specs.Law.{Table}
 use Rattle.machine.specs.declared.access.Fault.{Fault}
 use Rattle.machine.specs.declared.execute.Executed.{Executed}
-use Rattle.machine.specs.declared.standing.Standing.{Standing}
 use Rattle.machine.specs.declared.standing.Standing.the-variants.{Running, Waiting, Stopped, Halted}
 use Rattle.machine.specs.Access.{Access, done, fail, perform}
 use Rattle.machine.specs.Execute.{instruction}
 use Rattle.machine.specs.Request.{entered}
 use Rattle.board.specs.declared.refusal.Refusal.{Refusal}
-use Rattle.board.specs.declared.refusal.Refusal.the-variants.{BoardHalted, ClockPastLimit, StoppedWithoutLine, NoSuchLine}
+use Rattle.board.specs.declared.refusal.Refusal.the-variants.{BoardHalted, ClockPastLimit, StoppedWithoutLine}
 use Rattle.board.specs.declared.stages.Live.{Live}
 use Rattle.board.specs.Situation.{Situation, clockLimit}
 

@@ -3,7 +3,6 @@ use mathlib.Core.Bool.{true, false}
 use Prim.Native.Nat.{ℕ}
 use Rattle.std.specs.declared.result.Result.{Result}
 use Rattle.std.specs.declared.result.Result.the-variants.{Ok, Err}
-use Rattle.bus.specs.Cell.{Cells}
 use Rattle.machine.specs.declared.access.Fault.{Fault}
 use Rattle.machine.specs.declared.registers.Registers.{Registers}
 use Rattle.machine.specs.declared.standing.Standing.{Standing}

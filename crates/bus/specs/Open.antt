@@ -4,7 +4,7 @@ use mathlib.Core.List.{List}
 use Prim.Native.Nat.{ℕ}
 use lib.Dec.{ltb}
 use lib.ListN.{length, getD, set}
-use Rattle.bus.specs.Cell.{Cell, Cells, open-cell, missing-cell}
+use Rattle.bus.specs.Cell.{Cells, open-cell, missing-cell}
 
 -- the bytes once one was stored; an address past their end changes nothing
 abbrev pub openStored : List ℕ → ℕ → ℕ → List ℕ

@@ -1,12 +1,10 @@
 // The open memory: the caller's bytes, every one of them open.
 ghost use mathlib.Core.Path.{_≡_};
-ghost use mathlib.Core.Bool.{cond};
 ghost use Prim.Native.Nat.{ℕ, _≤_};
-ghost use lib.Dec.{ltb};
 ghost use lib.ListN.{getD};
-ghost use Rattle.std.specs.Of.Vec.{vec-items, vec-len};
+ghost use Rattle.std.specs.Of.Vec.{vec-items};
 ghost use Rattle.bus.specs.Open.{openCells, openStored};
-ghost use Rattle.bus.specs.Cell.{Cell, Cells, missing-cell, classOf, readAnswer, storeAnswer, stored};
+ghost use Rattle.bus.specs.Cell.{readAnswer, storeAnswer, stored};
 use crate::cell::BusRefusal;
 use crate::cell::Class;
 use crate::traits::Bus;

@@ -1,7 +1,7 @@
 // What every memory promises.
 ghost use mathlib.Core.Path.{_≡_};
 ghost use Prim.Native.Nat.{ℕ, _≤_};
-ghost use Rattle.bus.specs.Cell.{Cell, Cells, missing-cell, classOf, readAnswer, storeAnswer, stored};
+ghost use Rattle.bus.specs.Cell.{Cells, missing-cell, classOf, readAnswer, storeAnswer, stored};
 use crate::cell::BusRefusal;
 use crate::cell::Class;
 

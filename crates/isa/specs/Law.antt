@@ -1,9 +1,9 @@
 -- What binds every core.
 use mathlib.Core.Path.{_≡_}
 use mathlib.Core.Logic.{_⊎_}
-use Prim.Native.Nat.{ℕ, _+_, _≤_, _<_}
+use Prim.Native.Nat.{ℕ, _+_, _≤_}
 use Rattle.std.specs.declared.option.Option.{Option}
-use Rattle.std.specs.declared.option.Option.the-variants.{Some, None}
+use Rattle.std.specs.declared.option.Option.the-variants.{Some}
 use Rattle.isa.specs.declared.operation.Operation.{Operation}
 use Rattle.isa.specs.declared.row.Mode.{Mode}
 use Rattle.isa.specs.declared.row.Page.{Page}

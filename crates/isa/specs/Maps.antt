@@ -1,5 +1,5 @@
 -- The opcode maps: which operation in which mode stands at each opcode, sixteen opcodes to a line, and the operand bytes.
-use mathlib.Core.List.{List, [], _∷_, _++_}
+use mathlib.Core.List.{List, [], _∷_}
 use Prim.Native.Nat.{ℕ, _/_, _%_}
 use lib.ListN.{getD, replicate}
 use Rattle.std.specs.declared.option.Option.{Option}

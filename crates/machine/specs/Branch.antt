@@ -1,5 +1,5 @@
 -- The branches.
-use mathlib.Core.Bool.{Bool, true, false, cond, not, _&&_, _||_}
+use mathlib.Core.Bool.{Bool, true, false, cond, not, _||_}
 use Prim.Native.Nat.{ℕ}
 use Rattle.alu.specs.declared.flags.Flags.{Flags}
 use Rattle.alu.specs.Flags.{unlike}

@@ -9,7 +9,6 @@ use Rattle.alu.specs.Logic.{testOf}
 use Rattle.alu.specs.Sums.{differenceOf}
 use Rattle.alu.specs.Words.{wordOf}
 use Rattle.isa.specs.Law.{Table}
-use Rattle.isa.specs.declared.operation.Operation.{Operation}
 use Rattle.isa.specs.declared.operation.Operation.the-variants.{Branch, Combine, Modify, Word, Displace, Register, Rest}
 use Rattle.isa.specs.declared.operation.ReadModifyWrite.{ReadModifyWrite}
 use Rattle.isa.specs.declared.operation.WordOperation.{WordOperation}
@@ -27,7 +26,7 @@ use Rattle.machine.specs.declared.execute.Executed.{Executed}
 use Rattle.machine.specs.declared.registers.Registers.{Registers}
 use Rattle.machine.specs.declared.standing.Standing.{Standing}
 use Rattle.machine.specs.declared.standing.Standing.the-variants.{Running, Waiting, Stopped, Halted}
-use Rattle.machine.specs.Access.{Access, done, fail, read, _>>=_, after, fetchWord, answered}
+use Rattle.machine.specs.Access.{Access, done, _>>=_, after, fetchWord, answered}
 use Rattle.machine.specs.Branch.{branched}
 use Rattle.machine.specs.Combine.{combined}
 use Rattle.machine.specs.Decode.{decoded, operandByte}

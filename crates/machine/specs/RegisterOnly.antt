@@ -1,7 +1,6 @@
 -- The instructions that touch registers and flags alone.
 use mathlib.Core.Bool.{true, false}
 use Prim.Native.Nat.{ℕ}
-use Rattle.alu.specs.declared.flags.Flags.{Flags}
 use Rattle.alu.specs.Flags.{ccrByte, ccrFlags, withC, withI}
 use Rattle.alu.specs.Decimal.{decimalAdjustOf}
 use Rattle.alu.specs.Logic.{testOf}

@@ -1,6 +1,6 @@
 // Single accesses of the machine to its memory.
 ghost use mathlib.Core.Path.{_≡_};
-ghost use Rattle.machine.specs.Access.{Access, done, read, store, perform, fetchWord};
+ghost use Rattle.machine.specs.Access.{done, read, store, perform, fetchWord};
 use alu::words::word;
 use bus::cell::BusRefusal;
 use bus::traits::Bus;

@@ -1,7 +1,7 @@
 // From the opcode to its row.
 ghost use mathlib.Core.Path.{_≡_};
 ghost use Rattle.machine.specs.Access.{perform};
-ghost use Rattle.machine.specs.Decode.{decoded, rowFound, rowAnswer, operandByte};
+ghost use Rattle.machine.specs.Decode.{decoded, rowAnswer, operandByte};
 use crate::access::Fault;
 use crate::access::read_cell;
 use bus::traits::Bus;

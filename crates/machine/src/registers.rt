@@ -1,6 +1,5 @@
 // The registers.
 ghost use mathlib.Core.Path.{_≡_};
-ghost use Prim.Native.Nat.{ℕ};
 ghost use Rattle.alu.specs.Words.{wordOf};
 ghost use Rattle.machine.specs.Registers.{withA, withX, withH, withHx, withSp, withPc, withFlags};
 use alu::flags::Flags;

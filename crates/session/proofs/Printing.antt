@@ -1,6 +1,6 @@
 -- One line more of a session, put before the lines that are left.
 use mathlib.Core.Path.{_≡_, ap, sym, subst, _∙_}
-use mathlib.Core.List.{List, [], _∷_, _++_, append-assoc}
+use mathlib.Core.List.{List, _∷_, _++_, append-assoc}
 use Prim.Native.Nat.{ℕ, _+_}
 use Rattle.isa.specs.Law.{Table}
 use Rattle.session.specs.Phase.{Standpoint, lineSaid, printed}

@@ -1,11 +1,11 @@
 -- Zeros as an open memory.
-use mathlib.Core.Path.{_≡_, refl, ap, sym, _∙_, fun-ext}
+use mathlib.Core.Path.{_≡_, refl, ap, _∙_, fun-ext}
 use mathlib.Core.Bool.{Bool, true, false, cond}
-use mathlib.Core.List.{List, [], _∷_}
+use mathlib.Core.List.{List}
 use Prim.Native.Nat.{ℕ, zero, suc}
 use lib.Dec.{ltb}
-use lib.ListN.{length, getD, replicate, length-replicate}
-use Rattle.bus.specs.Cell.{Cell, Cells, open-cell, missing-cell}
+use lib.ListN.{getD, replicate, length-replicate}
+use Rattle.bus.specs.Cell.{Cell, open-cell, missing-cell}
 use Rattle.bus.specs.Open.{openCells}
 use Rattle.session.specs.Course.{zeroed}
 

@@ -16,7 +16,6 @@ use Rattle.console.specs.declared.order.Order.{Order}
 use Rattle.console.specs.declared.order.Order.the-variants.{Run, Raise, Drop}
 use Rattle.console.specs.Order.{orderOf}
 use Rattle.console.specs.Row.{rowBytes}
-use Rattle.session.specs.declared.declined.Declined.{Declined}
 use Rattle.session.specs.declared.declined.Declined.the-variants.{NotUnderstood, ByBoard}
 use Rattle.session.specs.declared.rows.Outcome.{Outcome}
 use Rattle.session.specs.Declined.{declinedNumber}

@@ -3,7 +3,6 @@ ghost use mathlib.Core.Path.{_≡_};
 ghost use mathlib.Core.Bool.{cond};
 ghost use mathlib.Core.List.{_++_};
 ghost use Rattle.board.specs.Situation.{situation};
-ghost use Rattle.console.specs.Row.{rowBytes};
 ghost use Rattle.std.specs.Of.Vec.{vec-items};
 ghost use Rattle.std.specs.Results.{isOk};
 ghost use Rattle.session.specs.Orders.{obeyed, orderLine, setOutcome, runOutcome};

@@ -6,7 +6,7 @@ ghost use Rattle.board.specs.Situation.{situation};
 ghost use Rattle.std.specs.Of.Vec.{vec-items};
 ghost use Rattle.std.specs.Results.{isOk};
 ghost use Rattle.std.specs.Vec.{made};
-ghost use Rattle.session.specs.Phase.{Said, shown, coreIn, recordLine, lineSaid, closing};
+ghost use Rattle.session.specs.Phase.{shown, coreIn, recordLine, lineSaid, closing};
 use crate::declined::Declined;
 use crate::orders::take_order;
 use crate::rows::blank_row;

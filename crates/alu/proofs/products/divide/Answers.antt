@@ -1,5 +1,4 @@
 use native.Mathlib.Omega.{arith}
-use Prim.Native.Nat.{_<_, _*_, _+_}
 use Rattle.std.proofs.shelf.Bits.{div-below}
 use Rattle.alu.proofs.products.divide.Needs as need
 

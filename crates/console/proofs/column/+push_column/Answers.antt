@@ -1,5 +1,5 @@
 -- The front of the column stands when the last digit is pushed.
-use mathlib.Core.Path.{_≡_, _∙_, ap}
+use mathlib.Core.Path.{_∙_, ap}
 use mathlib.Core.List.{List}
 use Prim.Native.Nat.{_+_, _/_, _%_, _^_, _<_, ℕ}
 use native.Mathlib.Omega.{arith}

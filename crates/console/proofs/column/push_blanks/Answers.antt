@@ -1,6 +1,6 @@
 -- One blank more is one more turn.
 use mathlib.Core.Path.{_∙_, ap}
-use mathlib.Core.List.{List, [], _∷_, _++_, append-assoc}
+use mathlib.Core.List.{[], _∷_, _++_, append-assoc}
 use native.Mathlib.Omega.{arith}
 use lib.ListN.{replicate}
 use Rattle.std.specs.Of.Vec.{vec-items}

@@ -1,5 +1,5 @@
 -- Each turn reads one digit.
-use mathlib.Core.Path.{_≡_, sym, _∙_}
+use mathlib.Core.Path.{sym, _∙_}
 use Prim.Native.Nat.{_<_}
 use native.Mathlib.Omega.{arith}
 use Rattle.console.proofs.OrderLaws.{read-digit, read-other, read-end, one-more-digit}

@@ -1,10 +1,9 @@
-use mathlib.Core.Path.{_≡_, ap, _∙_}
+use mathlib.Core.Path.{ap, _∙_}
 use mathlib.Core.List.{List, _++_}
 use Prim.Native.Nat.{ℕ}
 use Rattle.std.proofs.shelf.Results.{err-from-errBy}
 use Rattle.std.specs.Of.Vec.{vec-items}
 use Rattle.console.specs.Row.{rowBytes}
-use Rattle.console.specs.declared.row.RegisterRow.{RegisterRow}
 use Rattle.session.specs.Phase.{Said, recordAnswered}
 use Rattle.session.proofs.phase.take_record.Needs as need
 

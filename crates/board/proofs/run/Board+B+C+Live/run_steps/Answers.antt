@@ -1,13 +1,13 @@
-use mathlib.Core.Path.{_≡_, subst, _∙_, sym, ap}
+use mathlib.Core.Path.{_≡_, subst, _∙_, ap}
 use native.Mathlib.Omega.{arith}
-use Prim.Native.Nat.{ℕ, _<_, _+_, _-_}
+use Prim.Native.Nat.{ℕ, _<_}
 use Rattle.std.specs.declared.result.Result.{Result}
 use Rattle.std.specs.declared.result.Result.the-variants.{Ok, Err}
 use Rattle.board.specs.declared.refusal.Refusal.{Refusal}
 use Rattle.board.specs.declared.stages.Live.{Live}
 use Rattle.board.specs.Live.{stepTaken}
 use Rattle.board.specs.Refusal.{refusalNumber}
-use Rattle.board.specs.Run.{Ran, runTaken, putBefore, endNumber}
+use Rattle.board.specs.Run.{Ran, runTaken, endNumber}
 use Rattle.board.specs.Situation.{Situation, situation}
 use Rattle.board.proofs.RunLaws.{told}
 use Rattle.board.proofs.Runs.{again, refused, spentAll}

@@ -34,9 +34,7 @@ pub fn with_dropped(lines: u32, line: u32) -> u32
 
 // The line that is served: the lowest one raised.
 fn served_line(lines: u32) -> u32
-    ensures value { λ r. ⌜ r ≡ servedLine lines ⌝ }
-    ensures bound { λ r. ⌜ r ≤ 32 ⌝ }
-    ensures lowest { λ r. ⌜ (0 < lines → Lowest lines r) ⌝ }
+    ensures { λ r. ⌜ r ≡ servedLine lines ⌝ }
 {
     lines.trailing_zeros()
 }
@@ -51,7 +49,8 @@ fn vector(line: u32) -> u16
 
 // The vector of the line that is served.
 pub(crate) fn served_vector(lines: u32) -> u16
-    ensures { λ r. ⌜ r ≡ vectorOf (servedLine lines) ⌝ }
+    ensures value { λ r. ⌜ r ≡ vectorOf (servedLine lines) ⌝ }
+    ensures lowest { λ _. ⌜ (0 < lines → Lowest lines (servedLine lines)) ⌝ }
 {
     vector(served_line(lines))
 }

@@ -12,7 +12,7 @@ pub enum Declined {
 
 impl Declined {
     // The number in the row.
-    pub fn number(self) -> u8
+    pub(crate) fn number(self) -> u8
         ensures { λ r. ⌜ r ≡ declinedNumber self ⌝ }
     {
         match self {

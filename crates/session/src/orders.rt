@@ -74,7 +74,7 @@ fn obey<B: Bus, C: Core>(board: &mut Board<B, C, Live>, order: Option<Order>) ->
 }
 
 // Obeys a line, and adds its row.
-pub fn take_order<B: Bus, C: Core>(
+pub(crate) fn take_order<B: Bus, C: Core>(
     board: &mut Board<B, C, Live>,
     line: &[u8],
     number: u32,

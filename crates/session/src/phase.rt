@@ -58,7 +58,7 @@ fn take_record<B: Bus + Drop, C: Core + Drop>(
 
 impl<B: Bus + Drop, C: Core + Drop> Phase<B, C> {
     // Takes a line of the session, and adds what is printed of it.
-    pub fn take_line(
+    pub(crate) fn take_line(
         self,
         line: &[u8],
         number: u32,

@@ -14,7 +14,7 @@ pub struct Outcome {
 }
 
 // The row of a line that is refused before the board is live: there are no registers to show.
-pub fn blank_row(line: u32, declined: Declined) -> RegisterRow
+pub(crate) fn blank_row(line: u32, declined: Declined) -> RegisterRow
     ensures { λ r. ⌜ r ≡ blankRow line declined ⌝ }
 {
     RegisterRow {
@@ -31,7 +31,7 @@ pub fn blank_row(line: u32, declined: Declined) -> RegisterRow
 }
 
 // The row of an order.
-pub fn register_row(line: u32, outcome: Outcome, registers: Registers) -> RegisterRow
+pub(crate) fn register_row(line: u32, outcome: Outcome, registers: Registers) -> RegisterRow
     ensures { λ r. ⌜ r ≡ registerRow line outcome registers ⌝ }
 {
     RegisterRow {

@@ -59,17 +59,19 @@ inh o = Some (Register o, Inherent)
 abbrev pub rest : Standstill → Place
 rest o = Some (Rest o, Inherent)
 
--- LDHX and CPHX with the word after the opcode
+-- LDHX with the word after the opcode
 abbrev pub ldhx : Place
 ldhx = Some (Word Ldhx, Immediate)
 
+-- CPHX with the word after the opcode
 abbrev pub cphx : Place
 cphx = Some (Word Cphx, Immediate)
 
--- AIS and AIX
+-- AIS with the byte after the opcode
 abbrev pub ais : Place
 ais = Some (Displace Ais, Immediate)
 
+-- AIX with the byte after the opcode
 abbrev pub aix : Place
 aix = Some (Displace Aix, Immediate)
 

@@ -28,9 +28,10 @@ cpu08Table = tableOf cpu08Map (λ o m. figures o m .cpu08)
 abbrev pub hcs08Table : Table
 hcs08Table = tableOf hcs08Map (λ o m. figures o m .hcs08)
 
--- the cycles of entry
+-- the cycles of entry on the CPU08
 abbrev pub cpu08Entry : ℕ
 cpu08Entry = entryFigures .cpu08
 
+-- the cycles of entry on the HCS08
 abbrev pub hcs08Entry : ℕ
 hcs08Entry = entryFigures .hcs08

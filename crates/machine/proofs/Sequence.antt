@@ -6,7 +6,12 @@ use Rattle.std.specs.declared.result.Result.the-variants.{Ok, Err}
 use Rattle.bus.specs.Cell.{Cell, Cells, open-cell, guarded-cell, missing-cell, stored}
 use Rattle.machine.specs.declared.access.Fault.{Fault}
 use Rattle.machine.specs.declared.access.Fault.the-variants.{MissingCell}
-use Rattle.machine.specs.Access.{Access, done, fail, read, store, _>>=_, onCell, perform, andThen}
+use Rattle.machine.specs.Access.{Access, done, fail, read, store, _>>=_, onCell, perform}
+
+-- what follows a tree's result: a fault ends it
+abbrev andThen : {X Y : Type 0} → Result X Fault × Cells → (X → Access Y) → Result Y Fault × Cells
+andThen (Ok x, m) f = perform (f x) m
+andThen (Err e, m) f = (Err e, m)
 
 module _ {X Y : Type 0} (f : X → Access Y) where
   -- one access, and then a tree of which the law holds

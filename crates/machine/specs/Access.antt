@@ -35,11 +35,6 @@ perform fail m = (Err NoInstruction, m)
 perform (read a k) m = onCell (m a) (λ b. perform (k b) m) (Err MissingCell, m)
 perform (store a b t) m = onCell (m a) (λ _. perform t (stored m a b)) (Err MissingCell, m)
 
--- what follows a tree's result: a fault ends it
-abbrev pub andThen : {X Y : Type 0} → Result X Fault × Cells → (X → Access Y) → Result Y Fault × Cells
-andThen (Ok x, m) f = perform (f x) m
-andThen (Err e, m) f = (Err e, m)
-
 -- the address after another one
 abbrev pub after : ℕ → ℕ → ℕ
 after address n = (address + n) % 65536

@@ -14,17 +14,12 @@ use Rattle.isa.specs.declared.row.Row.{Row}
 use Rattle.machine.specs.declared.access.Fault.{Fault}
 use Rattle.machine.specs.declared.access.Fault.the-variants.{NoInstruction}
 use Rattle.machine.specs.declared.decode.Decoded.{Decoded}
-use Rattle.machine.specs.Access.{Access, done, fail, read, after}
+use Rattle.machine.specs.Access.{Access, done, fail, read, after, answered}
 
 -- a place of the table: its row with the address of the first operand byte, or no instruction
-abbrev pub rowFound : Option Row → ℕ → Access Decoded
-rowFound (Some row) operand = done (record { row = row; operand = operand })
-rowFound None operand = fail
-
--- the same as an answer
-abbrev pub rowAnswer : Option Row → ℕ → Result Decoded Fault
-rowAnswer (Some row) operand = Ok (record { row = row; operand = operand })
-rowAnswer None operand = Err NoInstruction
+abbrev pub rowFound : Option Row → ℕ → Result Decoded Fault
+rowFound (Some row) operand = Ok (record { row = row; operand = operand })
+rowFound None operand = Err NoInstruction
 
 -- the opcode is read, and behind $9E the opcode of the second page
 abbrev pub decoded : Table → ℕ → Access Decoded
@@ -32,8 +27,8 @@ decoded table pc =
     read pc (λ opcode.
     cond
     (eqb opcode 0x9E)
-    (read (after pc 1) (λ second. rowFound (table Second second) (after pc 2)))
-    (rowFound (table First opcode) (after pc 1)))
+    (read (after pc 1) (λ second. answered (rowFound (table Second second) (after pc 2))))
+    (answered (rowFound (table First opcode) (after pc 1))))
 
 -- the operand byte of an instruction that takes one; a mode with no operand byte has none
 abbrev pub operandByte : Mode → ℕ → Access ℕ

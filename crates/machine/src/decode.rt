@@ -1,7 +1,7 @@
 // From the opcode to its row.
 ghost use mathlib.Core.Path.{_≡_};
 ghost use Rattle.machine.specs.Access.{perform};
-ghost use Rattle.machine.specs.Decode.{decoded, rowAnswer, operandByte};
+ghost use Rattle.machine.specs.Decode.{decoded, rowFound, operandByte};
 use crate::access::Fault;
 use crate::access::read_cell;
 use bus::traits::Bus;
@@ -21,7 +21,7 @@ pub(crate) struct Decoded {
 }
 
 fn found(row: Option<Row>, operand: u16) -> Result<Decoded, Fault>
-    ensures { λ r. ⌜ r ≡ rowAnswer row operand ⌝ }
+    ensures { λ r. ⌜ r ≡ rowFound row operand ⌝ }
 {
     match row {
         Some(row) => Ok(Decoded { row, operand }),

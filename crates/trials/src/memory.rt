@@ -59,7 +59,10 @@ fn data_without_cells(rt: LibcRuntime) -> Result<(), Fail> {
     let refused = take_line(&mut memory, &mut ended, b"S107000E01020304E0");
     check_eq(refused, Err(missing))?;
     check_eq(memory.read(14), Ok(0))?;
-    check_eq(take_line(&mut memory, &mut ended, b"S105000E0102E9"), Ok(()))?;
+    check_eq(
+        take_line(&mut memory, &mut ended, b"S105000E0102E9"),
+        Ok(()),
+    )?;
     check_eq((memory.read(14), memory.read(15)), (Ok(1), Ok(2)))?;
     check(!ended)?;
     check_eq(take_line(&mut memory, &mut ended, b"S9030000FC"), Ok(()))?;

@@ -37,7 +37,16 @@ fn orders() -> Result<(), Fail> {
     check_eq(parts(b"R 20"), Some((b'R', 20)))?;
     check_eq(parts(b"U 00031"), Some((b'U', 31)))?;
     check_eq(parts(b"D 99999"), Some((b'D', 99_999)))?;
-    let others: [&[u8]; 8] = [b"", b"R", b"R ", b"R 123456", b"R  1", b"u 2", b"R 1 ", b"R 1a"];
+    let others: [&[u8]; 8] = [
+        b"",
+        b"R",
+        b"R ",
+        b"R 123456",
+        b"R  1",
+        b"u 2",
+        b"R 1 ",
+        b"R 1a",
+    ];
     for line in others {
         check_eq(parts(line), None)?;
     }
@@ -60,5 +69,8 @@ fn widest_row(rt: LibcRuntime) -> Result<(), Fail> {
         ccr: 255,
     };
     push_row(&mut text, &row)?;
-    check_eq(text.as_slice(), b"99999999999999999999255 65535 255 65535 65535 255\n")
+    check_eq(
+        text.as_slice(),
+        b"99999999999999999999255 65535 255 65535 65535 255\n",
+    )
 }

@@ -6,7 +6,7 @@ use std::str::from_utf8;
 use std::test::*;
 
 // Adds lines to a text, a line feed after each.
-pub fn add_lines(text: &mut Vec<u8>, lines: &[&str]) -> Result<(), AllocError> {
+pub(crate) fn add_lines(text: &mut Vec<u8>, lines: &[&str]) -> Result<(), AllocError> {
     for line in lines {
         text.extend_from_slice(line.as_bytes())?;
         text.push(b'\n')?;
@@ -15,7 +15,7 @@ pub fn add_lines(text: &mut Vec<u8>, lines: &[&str]) -> Result<(), AllocError> {
 }
 
 // Checks that an input prints these rows and nothing else.
-pub fn prints(heap: Global, input: &[u8], rows: &[&str]) -> Result<(), Fail> {
+pub(crate) fn prints(heap: Global, input: &[u8], rows: &[&str]) -> Result<(), Fail> {
     let mut expected = Vec::new(heap);
     add_lines(&mut expected, rows)?;
     let printed = course(heap, input)?;
@@ -24,7 +24,7 @@ pub fn prints(heap: Global, input: &[u8], rows: &[&str]) -> Result<(), Fail> {
 }
 
 // Checks that a core's session of these lines prints these rows and nothing else.
-pub fn answers(heap: Global, core: &str, lines: &[&str], rows: &[&str]) -> Result<(), Fail> {
+pub(crate) fn answers(heap: Global, core: &str, lines: &[&str], rows: &[&str]) -> Result<(), Fail> {
     let mut input = Vec::new(heap);
     add_lines(&mut input, &[core])?;
     add_lines(&mut input, lines)?;

@@ -1,4 +1,6 @@
 // What is the result, and which flags?
+#![tactic(auto)]
+
 pub mod addresses;
 pub mod bits;
 pub mod decimal;

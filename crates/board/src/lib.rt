@@ -1,4 +1,6 @@
 // What may be asked of a board, and what does it answer?
+#![tactic(auto)]
+
 pub mod board;
 pub mod empty;
 pub mod lines;

@@ -1,4 +1,6 @@
 // What does an address show, and may it change?
+#![tactic(auto)]
+
 pub mod cell;
 pub mod open;
 pub mod traits;

@@ -1,4 +1,6 @@
 // How does the program call, return and use the stack?
+#![tactic(auto)]
+
 pub mod interrupt;
 pub mod jumps;
 pub mod returns;

@@ -1,4 +1,6 @@
 // Does each instruction do what the cases worked by hand say?
+#![tactic(auto)]
+
 #[cfg(test)]
 mod bits;
 #[cfg(test)]

@@ -1,4 +1,6 @@
 // How does a person talk to the emulator?
+#![tactic(auto)]
+
 mod column;
 pub mod examples;
 pub mod first;

@@ -1,4 +1,6 @@
 // `course`: runs a board's image by the orders on standard input, and prints a row for each.
+#![tactic(auto)]
+
 use session::course::{INPUT_LIMIT, course};
 use std::io;
 use std::io::{Read, Write};

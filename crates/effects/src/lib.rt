@@ -1,4 +1,6 @@
 // What does an operation do to the registers?
+#![tactic(auto)]
+
 pub mod bits;
 pub mod branch;
 pub mod combine;

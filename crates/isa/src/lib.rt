@@ -1,4 +1,6 @@
 // Which instruction is this opcode, and what does it cost?
+#![tactic(auto)]
+
 pub mod core08;
 pub mod cpu08;
 mod cpu08_rows;

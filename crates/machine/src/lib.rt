@@ -1,4 +1,6 @@
 // What does one instruction do?
+#![tactic(auto)]
+
 pub mod access;
 mod branch;
 mod combine;

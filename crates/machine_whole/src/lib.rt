@@ -1,4 +1,6 @@
 // What does one instruction do?
+#![tactic(auto)]
+
 mod act;
 mod decode;
 pub mod execute;

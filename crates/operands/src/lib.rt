@@ -1,2 +1,4 @@
 // Where is the operand?
+#![tactic(auto)]
+
 pub mod address;

@@ -1,4 +1,6 @@
 // What does a whole session print?
+#![tactic(auto)]
+
 pub mod course;
 mod declined;
 pub mod examples;

@@ -1,4 +1,6 @@
 // What does the processor hold?
+#![tactic(auto)]
+
 pub mod lines;
 pub mod registers;
 pub mod standing;

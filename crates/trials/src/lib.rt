@@ -1,4 +1,6 @@
 // Does it do what the worked examples say?
+#![tactic(auto)]
+
 #[cfg(test)]
 mod arithmetic;
 #[cfg(test)]

@@ -4,4 +4,4 @@ use Rattle.console.proofs.column.push_blanks.Given as goal
 
 abbrev pub invariant-loop-i : goal.invariant-loop-i
 invariant-loop-i l =
-    (vec_items l.text ≡ vec_items l.initial.text ++ replicate l.-i 32) × (vec_len l.text ≡ vec_len l.initial.text + l.-i) × (vec_capacity l.text ≡ vec_capacity l.initial.text)
+    (vec_items l.text ≡ vec_items l.initial.text ++ replicate l._i 32) × (vec_len l.text ≡ vec_len l.initial.text + l._i) × (vec_capacity l.text ≡ vec_capacity l.initial.text)

@@ -14,4 +14,4 @@ pub returns : goal.returns
 returns c =
     let line = c.args.line.now in
     let blank : get_or line 1 0 ≡ 32 = search rules in
-    sym (parts_is line blank ∙ ap (beside (get_or line 0 0)) (sym c.in-ok-count.ensures))
+    sym (parts_is line blank ∙ ap (beside (get_or line 0 0)) (sym c.in_ok-count.ensures))

@@ -9,8 +9,8 @@ returns-then-not-is-ascii-digit c =
 
 pub loop-digit-preserved : goal.loop-digit-preserved
 loop-digit-preserved c =
-    let here = read_digit c.loop-digit.value c.args.digits.now c.loop-digit.digit-index c.loop-digit-test.true (sym c.if-not-is-ascii-digit.ensures.value) in
-    let small : c.from.result < 10 = omega (arith, c.if-not-is-ascii-digit.ensures.cases) in
+    let here = read_digit c.loop-digit.value c.args.digits.now c.loop-digit.digit-index c.loop-digit-test.true (sym c.if-not-is_ascii_digit.ensures.value) in
+    let small : c.from.result < 10 = omega (arith, c.if-not-is_ascii_digit.ensures.cases) in
     (rw c.from.ensures (sym here ∙ c.loop-digit.invariant.0), one_more_digit c.loop-digit.value c.from.result c.loop-digit.digit-index c.loop-digit.invariant.1 small)
 
 pub returns : goal.returns

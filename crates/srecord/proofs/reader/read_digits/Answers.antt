@@ -26,8 +26,8 @@ returns-then-not-is-right-checksum c =
 pub returns : goal.returns
 returns c =
     let digits = c.args.digits.now in
-    let all = (passed (all_digits digits) _ _ _ (sym c.in-ok-all-hexadecimal.ensures)).0 in
-    let right = sym c.if-not-is-right-length.ensures in
+    let all = (passed (all_digits digits) _ _ _ (sym c.in_ok-all_hexadecimal.ensures)).0 in
+    let right = sym c.if-not-is_right_length.ensures in
     let long = counted c.args.kind digits right in
     let size : length digits - 2 - 6 ≡ 2 * (byte_at digits 0 - 3) = omega arith in
-    ap Ok (c.record.ensures ∙ ap (λ n. parsed_of c.args.kind (address_digits digits) (take n (drop 6 digits))) size) ∙ sym (cond-true _ _ _ all ∙ (cond-true _ _ _ right ∙ cond-true _ _ _ (sym c.if-not-is-right-checksum.ensures)))
+    ap Ok (c.record.ensures ∙ ap (λ n. parsed_of c.args.kind (address_digits digits) (take n (drop 6 digits))) size) ∙ sym (cond-true _ _ _ all ∙ (cond-true _ _ _ right ∙ cond-true _ _ _ (sym c.if-not-is_right_checksum.ensures)))

@@ -10,6 +10,6 @@ returns c =
     let long : leb 10 (length line) ≡ true = le-leb 10 (length line) c.if-line-lt-SHORTEST.false in
     let letter : eqb (get_or line 0 0) 83 ≡ true = eq-eqb (get_or line 0 0) 83 c.if-line-ne83.false in
     let begins = and_from (leb 10 (length line)) (eqb (get_or line 0 0) 83) long letter in
-    let rest = ap (record_of_digits c.in-ok-kind.kind) (take_rest line 2) in
-    let kind = ap (λ k. record_of_kind k (drop 2 line)) c.in-ok-kind.ensures in
-    c.read-digits.ensures ∙ (rest ∙ (kind ∙ sym (cond-true _ _ _ begins)))
+    let rest = ap (record_of_digits c.in_ok-kind.kind) (take_rest line 2) in
+    let kind = ap (λ k. record_of_kind k (drop 2 line)) c.in_ok-kind.ensures in
+    c.read_digits.ensures ∙ (rest ∙ (kind ∙ sym (cond-true _ _ _ begins)))

@@ -8,7 +8,7 @@ use bus::traits::Bus;
 
 // Reads the byte that a cell shows.
 pub fn read_cell<B: Bus>(bus: &mut B, address: u16) -> Result<u8, Fault>
-    ensures { (result, cells bus.new) ≡ perform (read address done) (cells bus.old) }
+    ensures { (result, B.cells bus.new) ≡ perform (read address done) (B.cells bus.old) }
 {
     match bus.read(address) {
         Ok(byte) => Ok(byte),
@@ -18,7 +18,7 @@ pub fn read_cell<B: Bus>(bus: &mut B, address: u16) -> Result<u8, Fault>
 
 // Stores a byte; a guarded cell drops it.
 pub fn store_cell<B: Bus>(bus: &mut B, address: u16, byte: u8) -> Result<(), Fault>
-    ensures { (result, cells bus.new) ≡ perform (store address byte (done tt)) (cells bus.old) }
+    ensures { (result, B.cells bus.new) ≡ perform (store address byte (done tt)) (B.cells bus.old) }
 {
     match bus.store(address, byte) {
         Ok(()) => Ok(()),

@@ -10,7 +10,7 @@ use bus::traits::Bus;
 
 // Reads a word, its high byte first.
 pub fn read_word<B: Bus>(bus: &mut B, address: u16) -> Result<u16, Fault>
-    ensures { (result, cells bus.new) ≡ perform (fetch_word address) (cells bus.old) }
+    ensures { (result, B.cells bus.new) ≡ perform (fetch_word address) (B.cells bus.old) }
 {
     let high = read_cell(bus, address)?;
     let low = read_cell(bus, address.wrapping_add(1))?;
@@ -19,7 +19,7 @@ pub fn read_word<B: Bus>(bus: &mut B, address: u16) -> Result<u16, Fault>
 
 // Stores a word, its high byte first.
 pub fn store_word<B: Bus>(bus: &mut B, address: u16, word: u16) -> Result<(), Fault>
-    ensures { (result, cells bus.new) ≡ perform (store_word address word) (cells bus.old) }
+    ensures { (result, B.cells bus.new) ≡ perform (store_word address word) (B.cells bus.old) }
 {
     store_cell(bus, address, high_byte(word))?;
     store_cell(bus, address.wrapping_add(1), low_byte(word))
@@ -27,7 +27,7 @@ pub fn store_word<B: Bus>(bus: &mut B, address: u16, word: u16) -> Result<(), Fa
 
 // Pushes a word down from a place of the stack, its low byte first.
 pub fn push_word<B: Bus>(bus: &mut B, sp: u16, word: u16) -> Result<(), Fault>
-    ensures { (result, cells bus.new) ≡ perform (pushed_word sp word) (cells bus.old) }
+    ensures { (result, B.cells bus.new) ≡ perform (pushed_word sp word) (B.cells bus.old) }
 {
     store_cell(bus, sp, low_byte(word))?;
     store_cell(bus, sp.wrapping_sub(1), high_byte(word))

@@ -25,7 +25,7 @@ fn require_line(line: u32) -> Result<(), Refusal>
 impl<B: Bus, C: Core> Board<B, C, Live> {
     // Raises a line from 2 to 31.
     pub fn raise_line(&mut self, line: u32) -> Result<(), Refusal>
-        ensures meaning { (result, situation cells self.new) ≡ line_set with_line_raised line (situation cells self.old) }
+        ensures meaning { (result, situation B.cells self.new) ≡ line_set with_line_raised line (situation B.cells self.old) }
         ensures core { self.new.core ≡ self.old.core }
     {
         require_line(line)?;
@@ -35,7 +35,7 @@ impl<B: Bus, C: Core> Board<B, C, Live> {
 
     // Drops a line from 2 to 31.
     pub fn drop_line(&mut self, line: u32) -> Result<(), Refusal>
-        ensures meaning { (result, situation cells self.new) ≡ line_set with_line_dropped line (situation cells self.old) }
+        ensures meaning { (result, situation B.cells self.new) ≡ line_set with_line_dropped line (situation B.cells self.old) }
         ensures core { self.new.core ≡ self.old.core }
     {
         require_line(line)?;

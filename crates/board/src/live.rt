@@ -28,7 +28,7 @@ fn idle(registers: Registers) -> Executed
 impl<B: Bus, C: Core> Board<B, C, Live> {
     // Takes a step, and answers its cycles.
     pub fn step(&mut self) -> Result<u8, Refusal>
-        ensures meaning { (result, situation cells self.new) ≡ step_taken (table self.old.core) (entry_figure self.old.core) (situation cells self.old) }
+        ensures meaning { (result, situation B.cells self.new) ≡ step_taken (C.table self.old.core) (C.entry_figure self.old.core) (situation B.cells self.old) }
         ensures core { self.new.core ≡ self.old.core }
     {
         let live = self.stage;
@@ -52,7 +52,7 @@ impl<B: Bus, C: Core> Board<B, C, Live> {
     // Keeps what a step left. At a fault the board halts with its registers as they were, at 0 cycles.
     fn settle(&mut self, executed: Result<Executed, Fault>) -> u8
         requires { self.old.clock ≤ clock_limit }
-        ensures meaning { (Ok result, situation cells self.new) ≡ settled (situation cells self.old) (executed, cells self.old.bus) }
+        ensures meaning { (Ok result, situation B.cells self.new) ≡ settled (situation B.cells self.old) (executed, B.cells self.old.bus) }
         ensures core { self.new.core ≡ self.old.core }
     {
         let Ok(left) = executed else {

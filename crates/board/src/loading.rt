@@ -13,7 +13,7 @@ use srecord::load::take_line;
 impl<B: Bus, C: Core> Board<B, C, Loading> {
     // Takes a record line. A refused one changes nothing.
     pub fn line(&mut self, line: &[u8]) -> Result<(), Refusal>
-        ensures meaning { (result, situation cells self.new) ≡ line_given (situation cells self.old) line.now }
+        ensures meaning { (result, situation B.cells self.new) ≡ line_given (situation B.cells self.old) line.now }
         ensures core { self.new.core ≡ self.old.core }
     {
         match take_line(&mut self.bus, &mut self.stage.ended, line) {

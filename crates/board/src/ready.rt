@@ -40,7 +40,7 @@ fn reset_registers(pc: u16) -> Registers
 impl<B: Bus, C: Core> Board<B, C, Ready> {
     // Starts at the reset vector with all lines dropped; halts where the vector is missing.
     pub fn reset(self) -> Board<B, C, Live>
-        ensures meaning { situation cells result ≡ reset_of (situation cells self) }
+        ensures meaning { situation B.cells result ≡ reset_of (situation B.cells self) }
         ensures core { result.core ≡ self.core }
     {
         let Board {

@@ -25,7 +25,7 @@ fn end_number(ended: Option<Refusal>) -> u8
 impl<B: Bus, C: Core> Board<B, C, Live> {
     // Steps until the budget is spent or a step is refused. Answers the steps taken, their cycles and the number of the refusal.
     pub fn run(&mut self, budget: u32) -> Result<(u32, u32, u8), Refusal>
-        ensures meaning { (result, situation cells self.new) ≡ run_given (table self.old.core) (entry_figure self.old.core) budget (situation cells self.old) }
+        ensures meaning { (result, situation B.cells self.new) ≡ run_given (C.table self.old.core) (C.entry_figure self.old.core) budget (situation B.cells self.old) }
         ensures core { self.new.core ≡ self.old.core }
         ensures clock_is_start_plus_cycles { IfOk result (λ ran. self.new.clock ≡ self.old.clock + ran.1) }
         ensures steps_within_budget { IfOk result (λ ran. ran.0 ≤ budget) }
@@ -38,7 +38,7 @@ impl<B: Bus, C: Core> Board<B, C, Live> {
 
     fn run_steps(&mut self, budget: u32) -> (u32, u32, u8)
         requires { budget ≤ 65535 }
-        ensures meaning { (result, situation cells self.new) ≡ run_taken (table self.old.core) (entry_figure self.old.core) budget (situation cells self.old) }
+        ensures meaning { (result, situation B.cells self.new) ≡ run_taken (C.table self.old.core) (C.entry_figure self.old.core) budget (situation B.cells self.old) }
         ensures core { self.new.core ≡ self.old.core }
         ensures clock_is_start_plus_cycles { self.new.clock ≡ self.old.clock + result.1 }
         ensures steps_within_budget { result.0 ≤ budget }

@@ -12,7 +12,7 @@ use state::registers::Registers;
 
 // Pushes the address of the next instruction, and goes to a target.
 fn call<B: Bus>(bus: &mut B, target: u16, registers: &mut Registers) -> Result<(), Fault>
-    ensures { (result, registers.new, cells bus.new) ≡ leaves registers.old (perform (called target registers.old) (cells bus.old)) }
+    ensures { (result, registers.new, B.cells bus.new) ≡ leaves registers.old (perform (called target registers.old) (B.cells bus.old)) }
 {
     push_word(bus, registers.sp, registers.pc)?;
     registers.sp = registers.sp.wrapping_sub(2);
@@ -27,7 +27,7 @@ pub fn transfer<B: Bus>(
     target: u16,
     registers: &mut Registers,
 ) -> Result<(), Fault>
-    ensures { (result, registers.new, cells bus.new) ≡ leaves registers.old (perform (jumped jump target registers.old) (cells bus.old)) }
+    ensures { (result, registers.new, B.cells bus.new) ≡ leaves registers.old (perform (jumped jump target registers.old) (B.cells bus.old)) }
 {
     match jump {
         Jump::Jmp => registers.pc = target,

@@ -14,7 +14,7 @@ use state::registers::Registers;
 
 // Pulls the program counter.
 fn return_from_subroutine<B: Bus>(bus: &mut B, registers: &mut Registers) -> Result<(), Fault>
-    ensures { (result, registers.new, cells bus.new) ≡ leaves registers.old (perform (from_subroutine registers.old) (cells bus.old)) }
+    ensures { (result, registers.new, B.cells bus.new) ≡ leaves registers.old (perform (from_subroutine registers.old) (B.cells bus.old)) }
 {
     let sp = registers.sp;
     registers.pc = read_word(bus, sp.wrapping_add(1))?;
@@ -24,7 +24,7 @@ fn return_from_subroutine<B: Bus>(bus: &mut B, registers: &mut Registers) -> Res
 
 // Reads the frame above a place of the stack, from the condition codes up.
 fn read_frame<B: Bus>(bus: &mut B, sp: u16) -> Result<Frame, Fault>
-    ensures { (result, cells bus.new) ≡ perform (frame_read sp) (cells bus.old) }
+    ensures { (result, B.cells bus.new) ≡ perform (frame_read sp) (B.cells bus.old) }
 {
     let codes = read_cell(bus, sp.wrapping_add(1))?;
     let a = read_cell(bus, sp.wrapping_add(2))?;
@@ -35,7 +35,7 @@ fn read_frame<B: Bus>(bus: &mut B, sp: u16) -> Result<Frame, Fault>
 
 // Pulls the condition codes, A, X and the program counter.
 fn return_from_interrupt<B: Bus>(bus: &mut B, registers: &mut Registers) -> Result<(), Fault>
-    ensures { (result, registers.new, cells bus.new) ≡ leaves registers.old (perform (from_interrupt registers.old) (cells bus.old)) }
+    ensures { (result, registers.new, B.cells bus.new) ≡ leaves registers.old (perform (from_interrupt registers.old) (B.cells bus.old)) }
 {
     let frame = read_frame(bus, registers.sp)?;
     restore(frame, registers);
@@ -44,7 +44,7 @@ fn return_from_interrupt<B: Bus>(bus: &mut B, registers: &mut Registers) -> Resu
 
 // Goes back from a subroutine or an interrupt.
 pub fn go_back<B: Bus>(bus: &mut B, way: Return, registers: &mut Registers) -> Result<(), Fault>
-    ensures { (result, registers.new, cells bus.new) ≡ leaves registers.old (perform (returned way registers.old) (cells bus.old)) }
+    ensures { (result, registers.new, B.cells bus.new) ≡ leaves registers.old (perform (returned way registers.old) (B.cells bus.old)) }
 {
     match way {
         Return::Rts => return_from_subroutine(bus, registers),

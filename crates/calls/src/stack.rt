@@ -12,7 +12,7 @@ use state::registers::Registers;
 
 // Pushes a byte.
 fn push<B: Bus>(bus: &mut B, byte: u8, registers: &mut Registers) -> Result<(), Fault>
-    ensures { (result, registers.new, cells bus.new) ≡ leaves registers.old (perform (pushed byte registers.old) (cells bus.old)) }
+    ensures { (result, registers.new, B.cells bus.new) ≡ leaves registers.old (perform (pushed byte registers.old) (B.cells bus.old)) }
 {
     store_cell(bus, registers.sp, byte)?;
     registers.sp = registers.sp.wrapping_sub(1);
@@ -25,7 +25,7 @@ pub fn use_stack<B: Bus>(
     operation: StackOperation,
     registers: &mut Registers,
 ) -> Result<(), Fault>
-    ensures { (result, registers.new, cells bus.new) ≡ leaves registers.old (perform (stacked operation registers.old) (cells bus.old)) }
+    ensures { (result, registers.new, B.cells bus.new) ≡ leaves registers.old (perform (stacked operation registers.old) (B.cells bus.old)) }
 {
     let top = registers.sp.wrapping_add(1);
     match operation {

@@ -20,7 +20,7 @@ pub fn branch_on_bit<B: Bus>(
     operand: Operand,
     registers: &mut Registers,
 ) -> Result<(), Fault>
-    ensures { (result, registers.new, cells bus.new) ≡ leaves registers.old (perform (bit_tested branch bit operand registers.old) (cells bus.old)) }
+    ensures { (result, registers.new, B.cells bus.new) ≡ leaves registers.old (perform (bit_tested branch bit operand registers.old) (B.cells bus.old)) }
 {
     let offset = read_cell(bus, behind_address(operand))?;
     let byte = read_cell(bus, operand.address)?;

@@ -20,7 +20,7 @@ fn compare_immediate<B: Bus>(
     operand: Operand,
     registers: &mut Registers,
 ) -> Result<(), Fault>
-    ensures { (result, registers.new, cells bus.new) ≡ leaves registers.old (perform (compared_immediate register operand registers.old) (cells bus.old)) }
+    ensures { (result, registers.new, B.cells bus.new) ≡ leaves registers.old (perform (compared_immediate register operand registers.old) (B.cells bus.old)) }
 {
     let byte = read_cell(bus, operand.bytes)?;
     let offset = read_cell(bus, operand.bytes.wrapping_add(1))?;
@@ -34,7 +34,7 @@ fn compare_operand<B: Bus>(
     operand: Operand,
     registers: &mut Registers,
 ) -> Result<(), Fault>
-    ensures { (result, registers.new, cells bus.new) ≡ leaves registers.old (perform (compared_operand operand registers.old) (cells bus.old)) }
+    ensures { (result, registers.new, B.cells bus.new) ≡ leaves registers.old (perform (compared_operand operand registers.old) (B.cells bus.old)) }
 {
     let offset = read_cell(bus, behind_address(operand))?;
     let byte = read_cell(bus, operand.address)?;
@@ -49,7 +49,7 @@ pub fn branch_where_equal<B: Bus>(
     operand: Operand,
     registers: &mut Registers,
 ) -> Result<(), Fault>
-    ensures { (result, registers.new, cells bus.new) ≡ leaves registers.old (perform (branched_where_equal operation operand registers.old) (cells bus.old)) }
+    ensures { (result, registers.new, B.cells bus.new) ≡ leaves registers.old (perform (branched_where_equal operation operand registers.old) (B.cells bus.old)) }
 {
     match operation {
         CompareBranch::Cbeq => compare_operand(bus, operand, registers),

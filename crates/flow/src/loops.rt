@@ -18,7 +18,7 @@ fn decrement_cell<B: Bus>(
     offset: u8,
     registers: &mut Registers,
 ) -> Result<(), Fault>
-    ensures { (result, registers.new, cells bus.new) ≡ leaves registers.old (perform (cell_decremented address offset registers.old) (cells bus.old)) }
+    ensures { (result, registers.new, B.cells bus.new) ≡ leaves registers.old (perform (cell_decremented address offset registers.old) (B.cells bus.old)) }
 {
     let left = read_cell(bus, address)?.wrapping_sub(1);
     store_cell(bus, address, left)?;
@@ -34,7 +34,7 @@ fn decrement<B: Bus>(
     offset: u8,
     registers: &mut Registers,
 ) -> Result<(), Fault>
-    ensures { (result, registers.new, cells bus.new) ≡ leaves registers.old (perform (counted home address offset registers.old) (cells bus.old)) }
+    ensures { (result, registers.new, B.cells bus.new) ≡ leaves registers.old (perform (counted home address offset registers.old) (B.cells bus.old)) }
 {
     match home {
         Home::Accumulator => {
@@ -56,7 +56,7 @@ pub fn decrement_and_branch<B: Bus>(
     operand: Operand,
     registers: &mut Registers,
 ) -> Result<(), Fault>
-    ensures { (result, registers.new, cells bus.new) ≡ leaves registers.old (perform (decremented operand registers.old) (cells bus.old)) }
+    ensures { (result, registers.new, B.cells bus.new) ≡ leaves registers.old (perform (decremented operand registers.old) (B.cells bus.old)) }
 {
     let offset = read_cell(bus, behind_address(operand))?;
     decrement(

@@ -15,7 +15,7 @@ pub enum Fault {
 
 // Reads the byte that a cell shows.
 pub(crate) fn read_cell<B: Bus>(bus: &mut B, address: u16) -> Result<u8, Fault>
-    ensures { (result, cells bus.new) ≡ perform (read address done) (cells bus.old) }
+    ensures { (result, B.cells bus.new) ≡ perform (read address done) (B.cells bus.old) }
 {
     match bus.read(address) {
         Ok(byte) => Ok(byte),
@@ -25,7 +25,7 @@ pub(crate) fn read_cell<B: Bus>(bus: &mut B, address: u16) -> Result<u8, Fault>
 
 // Stores a byte; a guarded cell drops it.
 pub(crate) fn store_cell<B: Bus>(bus: &mut B, address: u16, byte: u8) -> Result<(), Fault>
-    ensures { (result, cells bus.new) ≡ perform (store address byte (done tt)) (cells bus.old) }
+    ensures { (result, B.cells bus.new) ≡ perform (store address byte (done tt)) (B.cells bus.old) }
 {
     match bus.store(address, byte) {
         Ok(()) => Ok(()),
@@ -36,7 +36,7 @@ pub(crate) fn store_cell<B: Bus>(bus: &mut B, address: u16, byte: u8) -> Result<
 
 // Reads a word, its high byte first.
 pub fn read_word<B: Bus>(bus: &mut B, address: u16) -> Result<u16, Fault>
-    ensures { (result, cells bus.new) ≡ perform (fetch_word address) (cells bus.old) }
+    ensures { (result, B.cells bus.new) ≡ perform (fetch_word address) (B.cells bus.old) }
 {
     let high = read_cell(bus, address)?;
     let low = read_cell(bus, address.wrapping_add(1))?;

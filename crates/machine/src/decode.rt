@@ -29,7 +29,7 @@ fn found(row: Option<Row>, operand: u16) -> Result<Decoded, Fault>
 
 // Reads the opcode, behind its prefix if it has one, and finds its row.
 pub(crate) fn decode<B: Bus, C: Core>(bus: &mut B, core: &C, pc: u16) -> Result<Decoded, Fault>
-    ensures { (result, cells bus.new) ≡ perform (decoded (table core.now) pc) (cells bus.old) }
+    ensures { (result, B.cells bus.new) ≡ perform (decoded (C.table core.now) pc) (B.cells bus.old) }
 {
     let opcode = read_cell(bus, pc)?;
     if opcode == PREFIX {
@@ -42,7 +42,7 @@ pub(crate) fn decode<B: Bus, C: Core>(bus: &mut B, core: &C, pc: u16) -> Result<
 
 // The operand byte of an instruction that takes one.
 pub(crate) fn operand_byte<B: Bus>(bus: &mut B, mode: Mode, operand: u16) -> Result<u8, Fault>
-    ensures { (result, cells bus.new) ≡ perform (operand_byte mode operand) (cells bus.old) }
+    ensures { (result, B.cells bus.new) ≡ perform (operand_byte mode operand) (B.cells bus.old) }
 {
     match mode {
         Mode::Immediate | Mode::Relative => read_cell(bus, operand),

@@ -90,7 +90,7 @@ fn operate<B: Bus>(
     registers: Registers,
     lines: u32,
 ) -> Result<(Registers, Standing), Fault>
-    ensures { (result, cells bus.new) ≡ perform (operated decoded registers lines) (cells bus.old) }
+    ensures { (result, B.cells bus.new) ≡ perform (operated decoded registers lines) (B.cells bus.old) }
 {
     let Decoded { row, operand } = decoded;
     match row.operation {
@@ -132,7 +132,7 @@ fn carry_out<B: Bus>(
     registers: Registers,
     lines: u32,
 ) -> Result<Executed, Fault>
-    ensures { (result, cells bus.new) ≡ perform (carried_out registers lines decoded) (cells bus.old) }
+    ensures { (result, B.cells bus.new) ≡ perform (carried_out registers lines decoded) (B.cells bus.old) }
 {
     let next = registers.with_pc(registers.pc.wrapping_add(u16::from(decoded.row.bytes)));
     let (registers, standing) = operate(bus, decoded, next, lines)?;
@@ -150,7 +150,7 @@ pub fn execute<B: Bus, C: Core>(
     registers: Registers,
     lines: u32,
 ) -> Result<Executed, Fault>
-    ensures { (result, cells bus.new) ≡ perform (instruction (table core.now) registers lines) (cells bus.old) }
+    ensures { (result, B.cells bus.new) ≡ perform (instruction (C.table core.now) registers lines) (B.cells bus.old) }
 {
     let decoded = decode(bus, core, registers.pc)?;
     carry_out(bus, decoded, registers, lines)

@@ -15,7 +15,7 @@ use isa::core08::Core;
 
 // Pushes a word, its low byte first.
 pub(crate) fn push_word<B: Bus>(bus: &mut B, sp: u16, word: u16) -> Result<(), Fault>
-    ensures { (result, cells bus.new) ≡ perform (pushed_word sp word) (cells bus.old) }
+    ensures { (result, B.cells bus.new) ≡ perform (pushed_word sp word) (B.cells bus.old) }
 {
     store_cell(bus, sp, low_byte(word))?;
     store_cell(bus, sp.wrapping_sub(1), high_byte(word))
@@ -23,7 +23,7 @@ pub(crate) fn push_word<B: Bus>(bus: &mut B, sp: u16, word: u16) -> Result<(), F
 
 // Pushes X, A and the condition codes.
 fn push_operands<B: Bus>(bus: &mut B, sp: u16, registers: Registers) -> Result<(), Fault>
-    ensures { (result, cells bus.new) ≡ perform (pushed_operands sp registers) (cells bus.old) }
+    ensures { (result, B.cells bus.new) ≡ perform (pushed_operands sp registers) (B.cells bus.old) }
 {
     store_cell(bus, sp, registers.x)?;
     store_cell(bus, sp.wrapping_sub(1), registers.a)?;
@@ -32,7 +32,7 @@ fn push_operands<B: Bus>(bus: &mut B, sp: u16, registers: Registers) -> Result<(
 
 // Pushes the program counter, X, A and the condition codes.
 pub(crate) fn push_frame<B: Bus>(bus: &mut B, registers: Registers) -> Result<(), Fault>
-    ensures { (result, cells bus.new) ≡ perform (pushed_frame registers) (cells bus.old) }
+    ensures { (result, B.cells bus.new) ≡ perform (pushed_frame registers) (B.cells bus.old) }
 {
     push_word(bus, registers.sp, registers.pc)?;
     push_operands(bus, registers.sp.wrapping_sub(2), registers)
@@ -45,7 +45,7 @@ fn go_to_vector<B: Bus, C: Core>(
     registers: Registers,
     lines: u32,
 ) -> Result<Executed, Fault>
-    ensures { (result, cells bus.new) ≡ perform (vectored (entry_figure core.now) registers lines) (cells bus.old) }
+    ensures { (result, B.cells bus.new) ≡ perform (vectored (C.entry_figure core.now) registers lines) (B.cells bus.old) }
 {
     let pc = read_word(bus, served_vector(lines))?;
     let flags = Flags {
@@ -72,7 +72,7 @@ pub fn enter<B: Bus, C: Core>(
     registers: Registers,
     lines: u32,
 ) -> Result<Executed, Fault>
-    ensures { (result, cells bus.new) ≡ perform (entered (entry_figure core.now) registers lines) (cells bus.old) }
+    ensures { (result, B.cells bus.new) ≡ perform (entered (C.entry_figure core.now) registers lines) (B.cells bus.old) }
 {
     push_frame(bus, registers)?;
     go_to_vector(bus, core, registers, lines)

@@ -36,7 +36,7 @@ pub(crate) fn act<B: Bus>(
     standing: &mut Standing,
     lines: u32,
 ) -> Result<(), Fault>
-    ensures meaning { (result, registers.new, cells bus.new) ≡ leaves registers.old (perform (acted operation operand registers.old lines) (cells bus.old)) }
+    ensures meaning { (result, registers.new, B.cells bus.new) ≡ leaves registers.old (perform (acted operation operand registers.old lines) (B.cells bus.old)) }
     ensures standing { standing.new ≡ stands result operation standing.old }
 {
     let address = operand.address;

@@ -31,7 +31,7 @@ fn found(row: Option<Row>, operand: u16) -> Result<Decoded, Fault>
 // Reads the opcode, behind its prefix if it has one, and finds its row. No core has a row at the prefix itself, so the first page is
 // asked first.
 pub(crate) fn decode<B: Bus, C: Core>(bus: &mut B, core: &C, pc: u16) -> Result<Decoded, Fault>
-    ensures { (result, cells bus.new) ≡ perform (decoded (table core.now) pc) (cells bus.old) }
+    ensures { (result, B.cells bus.new) ≡ perform (decoded (C.table core.now) pc) (B.cells bus.old) }
 {
     let opcode = read_cell(bus, pc)?;
     match core.row(Page::First, opcode) {

@@ -19,7 +19,7 @@ pub fn execute<B: Bus, C: Core>(
     standing: &mut Standing,
     lines: u32,
 ) -> Result<u8, Fault>
-    ensures { (result, registers.new, standing.new, cells bus.new) ≡ executes registers.old standing.old (perform (instruction (table core.now) registers.old standing.old lines) (cells bus.old)) }
+    ensures { (result, registers.new, standing.new, B.cells bus.new) ≡ executes registers.old standing.old (perform (instruction (C.table core.now) registers.old standing.old lines) (B.cells bus.old)) }
 {
     let decoded = decode(bus, core, registers.pc)?;
     carry_out(bus, decoded, registers, standing, lines)

@@ -21,7 +21,7 @@ fn operate<B: Bus>(
     standing: &mut Standing,
     lines: u32,
 ) -> Result<(), Fault>
-    ensures meaning { (result, registers.new, cells bus.new) ≡ leaves registers.old (perform (operated decoded registers.old lines) (cells bus.old)) }
+    ensures meaning { (result, registers.new, B.cells bus.new) ≡ leaves registers.old (perform (operated decoded registers.old lines) (B.cells bus.old)) }
     ensures standing { standing.new ≡ stands result decoded.row.operation standing.old }
 {
     let Decoded {
@@ -52,7 +52,7 @@ pub(crate) fn carry_out<B: Bus>(
     standing: &mut Standing,
     lines: u32,
 ) -> Result<u8, Fault>
-    ensures { (result, registers.new, standing.new, cells bus.new) ≡ executes registers.old standing.old (perform (carried_out registers.old standing.old lines decoded) (cells bus.old)) }
+    ensures { (result, registers.new, standing.new, B.cells bus.new) ≡ executes registers.old standing.old (perform (carried_out registers.old standing.old lines decoded) (B.cells bus.old)) }
 {
     let pc = registers.pc;
     move_on(decoded, registers);

@@ -14,7 +14,7 @@ use state::standing::Standing;
 
 // The machine runs, at the cycles of entry.
 fn start<C: Core>(core: &C, standing: &mut Standing) -> u8
-    ensures cycles { result ≡ entry_figure core.now }
+    ensures cycles { result ≡ C.entry_figure core.now }
     ensures standing { standing.new ≡ Standing.Running }
 {
     *standing = Standing::Running;
@@ -29,7 +29,7 @@ pub fn enter<B: Bus, C: Core>(
     standing: &mut Standing,
     lines: u32,
 ) -> Result<u8, Fault>
-    ensures { (result, registers.new, standing.new, cells bus.new) ≡ executes registers.old standing.old (perform (entered (entry_figure core.now) registers.old lines) (cells bus.old)) }
+    ensures { (result, registers.new, standing.new, B.cells bus.new) ≡ executes registers.old standing.old (perform (entered (C.entry_figure core.now) registers.old lines) (B.cells bus.old)) }
 {
     interrupt(bus, served_vector(lines), registers)?;
     Ok(start(core, standing))

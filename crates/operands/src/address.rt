@@ -35,7 +35,7 @@ pub fn operand_address<B: Bus>(
     at: u16,
     registers: &Registers,
 ) -> Result<u16, Fault>
-    ensures { (result, cells bus.new) ≡ perform (reached mode at registers.now) (cells bus.old) }
+    ensures { (result, B.cells bus.new) ≡ perform (reached mode at registers.now) (B.cells bus.old) }
 {
     match mode {
         Mode::Inherent

@@ -19,7 +19,7 @@ pub fn combine_operand<B: Bus>(
     address: u16,
     registers: &mut Registers,
 ) -> Result<(), Fault>
-    ensures { (result, registers.new, cells bus.new) ≡ leaves registers.old (perform (operand_combined operation address registers.old) (cells bus.old)) }
+    ensures { (result, registers.new, B.cells bus.new) ≡ leaves registers.old (perform (operand_combined operation address registers.old) (B.cells bus.old)) }
 {
     let byte = read_cell(bus, address)?;
     combine(operation, byte, registers);
@@ -33,7 +33,7 @@ pub fn displace_pointer<B: Bus>(
     address: u16,
     registers: &mut Registers,
 ) -> Result<(), Fault>
-    ensures { (result, registers.new, cells bus.new) ≡ leaves registers.old (perform (pointer_displaced pointer address registers.old) (cells bus.old)) }
+    ensures { (result, registers.new, B.cells bus.new) ≡ leaves registers.old (perform (pointer_displaced pointer address registers.old) (B.cells bus.old)) }
 {
     let offset = read_cell(bus, address)?;
     displace(pointer, offset, registers);

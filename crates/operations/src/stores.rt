@@ -27,7 +27,7 @@ pub fn store_register<B: Bus>(
     address: u16,
     registers: &mut Registers,
 ) -> Result<(), Fault>
-    ensures { (result, registers.new, cells bus.new) ≡ leaves registers.old (perform (register_stored operation address registers.old) (cells bus.old)) }
+    ensures { (result, registers.new, B.cells bus.new) ≡ leaves registers.old (perform (register_stored operation address registers.old) (B.cells bus.old)) }
 {
     let byte = stored_byte(operation, registers);
     store_cell(bus, address, byte)?;

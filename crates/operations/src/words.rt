@@ -13,7 +13,7 @@ use state::registers::Registers;
 
 // H:X becomes the operand word.
 fn load_word<B: Bus>(bus: &mut B, address: u16, registers: &mut Registers) -> Result<(), Fault>
-    ensures { (result, registers.new, cells bus.new) ≡ leaves registers.old (perform (word_loaded address registers.old) (cells bus.old)) }
+    ensures { (result, registers.new, B.cells bus.new) ≡ leaves registers.old (perform (word_loaded address registers.old) (B.cells bus.old)) }
 {
     let word = read_word(bus, address)?;
     load_index(word, registers);
@@ -22,7 +22,7 @@ fn load_word<B: Bus>(bus: &mut B, address: u16, registers: &mut Registers) -> Re
 
 // The flags order H:X and the operand word.
 fn compare_word<B: Bus>(bus: &mut B, address: u16, registers: &mut Registers) -> Result<(), Fault>
-    ensures { (result, registers.new, cells bus.new) ≡ leaves registers.old (perform (word_compared address registers.old) (cells bus.old)) }
+    ensures { (result, registers.new, B.cells bus.new) ≡ leaves registers.old (perform (word_compared address registers.old) (B.cells bus.old)) }
 {
     let word = read_word(bus, address)?;
     compare_index(word, registers);
@@ -31,7 +31,7 @@ fn compare_word<B: Bus>(bus: &mut B, address: u16, registers: &mut Registers) ->
 
 // H:X goes to memory, H first.
 fn store_index<B: Bus>(bus: &mut B, address: u16, registers: &mut Registers) -> Result<(), Fault>
-    ensures { (result, registers.new, cells bus.new) ≡ leaves registers.old (perform (word_stored address registers.old) (cells bus.old)) }
+    ensures { (result, registers.new, B.cells bus.new) ≡ leaves registers.old (perform (word_stored address registers.old) (B.cells bus.old)) }
 {
     store_word(bus, address, registers.hx())?;
     test_index(registers);
@@ -45,7 +45,7 @@ pub fn word_operation<B: Bus>(
     address: u16,
     registers: &mut Registers,
 ) -> Result<(), Fault>
-    ensures { (result, registers.new, cells bus.new) ≡ leaves registers.old (perform (worded operation address registers.old) (cells bus.old)) }
+    ensures { (result, registers.new, B.cells bus.new) ≡ leaves registers.old (perform (worded operation address registers.old) (B.cells bus.old)) }
 {
     match operation {
         WordOperation::Ldhx => load_word(bus, address, registers),

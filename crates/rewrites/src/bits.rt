@@ -16,7 +16,7 @@ pub fn change_memory_bit<B: Bus>(
     bit: BitNumber,
     address: u16,
 ) -> Result<(), Fault>
-    ensures { (result, cells bus.new) ≡ perform (memory_bit_changed change bit address) (cells bus.old) }
+    ensures { (result, B.cells bus.new) ≡ perform (memory_bit_changed change bit address) (B.cells bus.old) }
 {
     let byte = read_cell(bus, address)?;
     store_cell(bus, address, change_bit(change, bit, byte))

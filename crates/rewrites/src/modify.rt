@@ -16,7 +16,7 @@ use state::registers::Registers;
 
 // The byte in memory that is changed. CLR reads nothing.
 fn read_operand<B: Bus>(bus: &mut B, operation: ReadModifyWrite, address: u16) -> Result<u8, Fault>
-    ensures { (result, cells bus.new) ≡ perform (cell_read operation address) (cells bus.old) }
+    ensures { (result, B.cells bus.new) ≡ perform (cell_read operation address) (B.cells bus.old) }
 {
     match operation {
         ReadModifyWrite::Clr => Ok(0),
@@ -31,7 +31,7 @@ fn store_operand<B: Bus>(
     address: u16,
     byte: u8,
 ) -> Result<(), Fault>
-    ensures { (result, cells bus.new) ≡ perform (cell_stored operation address byte) (cells bus.old) }
+    ensures { (result, B.cells bus.new) ≡ perform (cell_stored operation address byte) (B.cells bus.old) }
 {
     match operation {
         ReadModifyWrite::Tst => Ok(()),
@@ -46,7 +46,7 @@ fn read_byte<B: Bus>(
     operand: Operand,
     registers: &Registers,
 ) -> Result<u8, Fault>
-    ensures { (result, cells bus.new) ≡ perform (byte_read operation (home_of operand.mode) operand.address registers.now) (cells bus.old) }
+    ensures { (result, B.cells bus.new) ≡ perform (byte_read operation (home_of operand.mode) operand.address registers.now) (B.cells bus.old) }
 {
     match home_of(operand.mode) {
         Home::Accumulator => Ok(registers.a),
@@ -63,7 +63,7 @@ fn put_byte<B: Bus>(
     byte: u8,
     registers: &mut Registers,
 ) -> Result<(), Fault>
-    ensures { (result, registers.new, cells bus.new) ≡ leaves registers.old (perform (byte_put operation (home_of operand.mode) operand.address byte registers.old) (cells bus.old)) }
+    ensures { (result, registers.new, B.cells bus.new) ≡ leaves registers.old (perform (byte_put operation (home_of operand.mode) operand.address byte registers.old) (B.cells bus.old)) }
 {
     match home_of(operand.mode) {
         Home::Accumulator => registers.a = byte,
@@ -81,7 +81,7 @@ fn put_back<B: Bus>(
     outcome: (u8, Flags),
     registers: &mut Registers,
 ) -> Result<(), Fault>
-    ensures { (result, registers.new, cells bus.new) ≡ leaves registers.old (perform (byte_put_back operation operand outcome registers.old) (cells bus.old)) }
+    ensures { (result, registers.new, B.cells bus.new) ≡ leaves registers.old (perform (byte_put_back operation operand outcome registers.old) (B.cells bus.old)) }
 {
     let (byte, flags) = outcome;
     put_byte(bus, operation, operand, byte, registers)?;
@@ -96,7 +96,7 @@ pub fn modify_operand<B: Bus>(
     operand: Operand,
     registers: &mut Registers,
 ) -> Result<(), Fault>
-    ensures { (result, registers.new, cells bus.new) ≡ leaves registers.old (perform (operand_modified operation operand registers.old) (cells bus.old)) }
+    ensures { (result, registers.new, B.cells bus.new) ≡ leaves registers.old (perform (operand_modified operation operand registers.old) (B.cells bus.old)) }
 {
     let byte = read_byte(bus, operation, operand, registers)?;
     let outcome = modify(operation, byte, registers.flags);

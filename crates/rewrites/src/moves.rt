@@ -18,7 +18,7 @@ fn place_byte<B: Bus>(
     byte: u8,
     registers: &mut Registers,
 ) -> Result<(), Fault>
-    ensures { (result, registers.new, cells bus.new) ≡ leaves registers.old (perform (byte_placed target byte registers.old) (cells bus.old)) }
+    ensures { (result, registers.new, B.cells bus.new) ≡ leaves registers.old (perform (byte_placed target byte registers.old) (B.cells bus.old)) }
 {
     store_cell(bus, target, byte)?;
     registers.test(byte);
@@ -31,7 +31,7 @@ fn move_direct<B: Bus>(
     operand: Operand,
     registers: &mut Registers,
 ) -> Result<(), Fault>
-    ensures { (result, registers.new, cells bus.new) ≡ leaves registers.old (perform (moved_direct operand registers.old) (cells bus.old)) }
+    ensures { (result, registers.new, B.cells bus.new) ≡ leaves registers.old (perform (moved_direct operand registers.old) (B.cells bus.old)) }
 {
     let target = read_cell(bus, operand.bytes.wrapping_add(1))?;
     let byte = read_cell(bus, operand.address)?;
@@ -44,7 +44,7 @@ fn move_immediate<B: Bus>(
     operand: Operand,
     registers: &mut Registers,
 ) -> Result<(), Fault>
-    ensures { (result, registers.new, cells bus.new) ≡ leaves registers.old (perform (moved_immediate operand registers.old) (cells bus.old)) }
+    ensures { (result, registers.new, B.cells bus.new) ≡ leaves registers.old (perform (moved_immediate operand registers.old) (B.cells bus.old)) }
 {
     let byte = read_cell(bus, operand.address)?;
     let target = read_cell(bus, operand.bytes.wrapping_add(1))?;
@@ -57,7 +57,7 @@ fn move_to_index<B: Bus>(
     operand: Operand,
     registers: &mut Registers,
 ) -> Result<(), Fault>
-    ensures { (result, registers.new, cells bus.new) ≡ leaves registers.old (perform (moved_to_index operand registers.old) (cells bus.old)) }
+    ensures { (result, registers.new, B.cells bus.new) ≡ leaves registers.old (perform (moved_to_index operand registers.old) (B.cells bus.old)) }
 {
     let byte = read_cell(bus, operand.address)?;
     let target = registers.hx();
@@ -72,7 +72,7 @@ fn move_from_index<B: Bus>(
     operand: Operand,
     registers: &mut Registers,
 ) -> Result<(), Fault>
-    ensures { (result, registers.new, cells bus.new) ≡ leaves registers.old (perform (moved_from_index operand registers.old) (cells bus.old)) }
+    ensures { (result, registers.new, B.cells bus.new) ≡ leaves registers.old (perform (moved_from_index operand registers.old) (B.cells bus.old)) }
 {
     let target = read_cell(bus, operand.bytes)?;
     let byte = read_cell(bus, operand.address)?;
@@ -87,7 +87,7 @@ pub fn move_byte<B: Bus>(
     operand: Operand,
     registers: &mut Registers,
 ) -> Result<(), Fault>
-    ensures { (result, registers.new, cells bus.new) ≡ leaves registers.old (perform (byte_moved operand registers.old) (cells bus.old)) }
+    ensures { (result, registers.new, B.cells bus.new) ≡ leaves registers.old (perform (byte_moved operand registers.old) (B.cells bus.old)) }
 {
     match operand.mode {
         Mode::DirectDirect => move_direct(bus, operand, registers),

@@ -55,7 +55,7 @@ fn first_phase<C: Core + Drop>(heap: Global, core: C) -> Result<Phase<OpenMemory
 // Takes the lines after the first one.
 fn session<C: Core + Drop>(heap: Global, core: C, lines: &[u8]) -> Result<Vec<u8>, AllocError>
     requires { length lines.now ≤ 32768 }
-    ensures { IfOk result (λ text. text.items ≡ session_prints (table core) (entry_figure core) (lines_of lines.now)) }
+    ensures { IfOk result (λ text. text.items ≡ session_prints (C.table core) (C.entry_figure core) (lines_of lines.now)) }
 {
     let mut text = Vec::new(heap);
     let mut phase = first_phase(heap, core)?;

@@ -56,8 +56,8 @@ fn run_outcome(answer: Result<(u32, u32, u8), Refusal>) -> Outcome
 
 // Carries out an order.
 fn obey<B: Bus, C: Core>(board: &mut Board<B, C, Live>, order: Option<Order>) -> Outcome
-    ensures outcome { result ≡ (obeyed (table board.old.core) (entry_figure board.old.core) order (situation cells board.old)).0 }
-    ensures board { situation cells board.new ≡ (obeyed (table board.old.core) (entry_figure board.old.core) order (situation cells board.old)).1 }
+    ensures outcome { result ≡ (obeyed (C.table board.old.core) (C.entry_figure board.old.core) order (situation B.cells board.old)).0 }
+    ensures board { situation B.cells board.new ≡ (obeyed (C.table board.old.core) (C.entry_figure board.old.core) order (situation B.cells board.old)).1 }
     ensures core { board.new.core ≡ board.old.core }
 {
     match order {
@@ -75,9 +75,9 @@ pub(crate) fn take_order<B: Bus, C: Core>(
     number: u32,
     text: &mut Vec<u8>,
 ) -> Result<(), AllocError>
-    ensures board { situation cells board.new ≡ (order_line (table board.old.core) (entry_figure board.old.core) number line.now (situation cells board.old)).1 }
+    ensures board { situation B.cells board.new ≡ (order_line (C.table board.old.core) (C.entry_figure board.old.core) number line.now (situation B.cells board.old)).1 }
     ensures core { board.new.core ≡ board.old.core }
-    ensures text { text.new.items ≡ (if is_ok result then text.old.items ++ (order_line (table board.old.core) (entry_figure board.old.core) number line.now (situation cells board.old)).0 else text.old.items) }
+    ensures text { text.new.items ≡ (if is_ok result then text.old.items ++ (order_line (C.table board.old.core) (C.entry_figure board.old.core) number line.now (situation B.cells board.old)).0 else text.old.items) }
 {
     let outcome = obey(board, parse_order(line));
     push_row(text, &register_row(number, outcome, board.registers()))

@@ -21,7 +21,7 @@ pub enum Phase<B, C> {
 
 // Closes and resets a board whose image has ended.
 fn close<B: Bus, C: Core>(board: Board<B, C, Loading>) -> Phase<B, C>
-    ensures shown { shown cells result ≡ closing (situation cells board) }
+    ensures shown { shown B.cells result ≡ closing (situation B.cells board) }
     ensures core { core_in result ≡ board.core }
 {
     match board.close() {
@@ -37,9 +37,9 @@ fn take_record<B: Bus + Drop, C: Core + Drop>(
     number: u32,
     text: &mut Vec<u8>,
 ) -> Result<Phase<B, C>, AllocError>
-    ensures shown { IfOk result (λ p. shown cells p ≡ (record_line number line.now (situation cells board)).1) }
+    ensures shown { IfOk result (λ p. shown B.cells p ≡ (record_line number line.now (situation B.cells board)).1) }
     ensures core { IfOk result (λ p. core_in p ≡ board.core) }
-    ensures text { text.new.items ≡ (if is_ok result then text.old.items ++ (record_line number line.now (situation cells board)).0 else text.old.items) }
+    ensures text { text.new.items ≡ (if is_ok result then text.old.items ++ (record_line number line.now (situation B.cells board)).0 else text.old.items) }
 {
     let mut board = board;
     match board.line(line) {
@@ -59,9 +59,9 @@ impl<B: Bus + Drop, C: Core + Drop> Phase<B, C> {
         number: u32,
         text: &mut Vec<u8>,
     ) -> Result<Phase<B, C>, AllocError>
-        ensures shown { IfOk result (λ p. shown cells p ≡ (line_said (table (core_in self)) (entry_figure (core_in self)) number line.now (shown cells self)).1) }
+        ensures shown { IfOk result (λ p. shown B.cells p ≡ (line_said (C.table (core_in self)) (C.entry_figure (core_in self)) number line.now (shown B.cells self)).1) }
         ensures core { IfOk result (λ p. core_in p ≡ core_in self) }
-        ensures text { text.new.items ≡ (if is_ok result then text.old.items ++ (line_said (table (core_in self)) (entry_figure (core_in self)) number line.now (shown cells self)).0 else text.old.items) }
+        ensures text { text.new.items ≡ (if is_ok result then text.old.items ++ (line_said (C.table (core_in self)) (C.entry_figure (core_in self)) number line.now (shown B.cells self)).0 else text.old.items) }
     {
         match self {
             Phase::Records(board) => take_record(board, line, number, text),

@@ -17,10 +17,10 @@ const MEMORY_SIZE: usize = 65536;
 
 // Takes a line: stores the data of a data record, and sets `ended` at an end record. A refused line changes nothing.
 pub fn take_line<B: Bus>(bus: &mut B, ended: &mut bool, line: &[u8]) -> Result<(), LineRefusal>
-    ensures answer { result ≡ (line_taken ended.old (Cells bus.old) line.now).answer }
-    ensures ending { ended.new ≡ (line_taken ended.old (Cells bus.old) line.now).is_ended }
-    ensures memory { Cells bus.new ≡ (line_taken ended.old (Cells bus.old) line.now).memory }
-    ensures cells_spelled { DataLine line.now → result ≡ Ok tt → DataSpelled line.now (Cells bus.old) (Cells bus.new) }
+    ensures answer { result ≡ (line_taken ended.old (B.cells bus.old) line.now).answer }
+    ensures ending { ended.new ≡ (line_taken ended.old (B.cells bus.old) line.now).is_ended }
+    ensures memory { B.cells bus.new ≡ (line_taken ended.old (B.cells bus.old) line.now).memory }
+    ensures cells_spelled { DataLine line.now → result ≡ Ok tt → DataSpelled line.now (B.cells bus.old) (B.cells bus.new) }
 {
     if *ended {
         return Err(LineRefusal::AfterEnd);
@@ -32,9 +32,9 @@ pub fn take_line<B: Bus>(bus: &mut B, ended: &mut bool, line: &[u8]) -> Result<(
 fn take_record<B: Bus>(bus: &mut B, ended: &mut bool, parsed: Record<'_>) -> Result<(), LineRefusal>
     requires loading { ended.old ≡ false }
     requires formed { Formed (parsed_by parsed) }
-    ensures answer { result ≡ (record_taken (Cells bus.old) (parsed_by parsed.entry)).answer }
-    ensures ending { ended.new ≡ (record_taken (Cells bus.old) (parsed_by parsed.entry)).is_ended }
-    ensures memory { Cells bus.new ≡ (record_taken (Cells bus.old) (parsed_by parsed.entry)).memory }
+    ensures answer { result ≡ (record_taken (B.cells bus.old) (parsed_by parsed.entry)).answer }
+    ensures ending { ended.new ≡ (record_taken (B.cells bus.old) (parsed_by parsed.entry)).is_ended }
+    ensures memory { B.cells bus.new ≡ (record_taken (B.cells bus.old) (parsed_by parsed.entry)).memory }
 {
     match parsed {
         Record::Header { .. } => Ok(()),
@@ -58,8 +58,8 @@ fn address_of(digits: &[u8]) -> u16
 // Stores data, if every byte has an open cell.
 fn take_data<B: Bus>(bus: &mut B, address: u16, digits: &[u8]) -> Result<(), LineRefusal>
     requires { all_digits digits.now ≡ true }
-    ensures answer { result ≡ data_answer (Cells bus.old) address digits.now }
-    ensures memory { Cells bus.new ≡ data_memory (Cells bus.old) address digits.now }
+    ensures answer { result ≡ data_answer (B.cells bus.old) address digits.now }
+    ensures memory { B.cells bus.new ≡ data_memory (B.cells bus.old) address digits.now }
 {
     let count = digits.len() / 2;
     if usize::from(address) + count > MEMORY_SIZE {
@@ -70,10 +70,10 @@ fn take_data<B: Bus>(bus: &mut B, address: u16, digits: &[u8]) -> Result<(), Lin
     Ok(())
 }
 
-// Refuses the lowest of the Cells from an address on that is not open.
+// Refuses the lowest of the cells from an address on that is not open.
 fn require_open<B: Bus>(bus: &B, address: u16, count: usize) -> Result<(), LineRefusal>
     requires { address + count ≤ 65536 }
-    ensures { result ≡ open_from (Cells bus.now) address count }
+    ensures { result ≡ open_from (B.cells bus.now) address count }
 {
     for n in 0..count {
         require_open_cell(bus, (usize::from(address) + n) as u16)?;
@@ -83,7 +83,7 @@ fn require_open<B: Bus>(bus: &B, address: u16, count: usize) -> Result<(), LineR
 
 // Refuses a cell that is not open.
 fn require_open_cell<B: Bus>(bus: &B, address: u16) -> Result<(), LineRefusal>
-    ensures { result ≡ open_answer address (store_answer (Cells bus.now address)) }
+    ensures { result ≡ open_answer address (store_answer (B.cells bus.now address)) }
 {
     let refusal = match bus.class(address) {
         Class::Open => return Ok(()),
@@ -93,11 +93,11 @@ fn require_open_cell<B: Bus>(bus: &B, address: u16) -> Result<(), LineRefusal>
     Err(LineRefusal::NotOpen { address, refusal })
 }
 
-// Stores the bytes that digits spell, from an address on. The Cells are open, so that none refuses its byte.
+// Stores the bytes that digits spell, from an address on. The cells are open, so that none refuses its byte.
 fn store_data<B: Bus>(bus: &mut B, address: u16, digits: &[u8])
     requires within { address + length digits.now / 2 ≤ 65536 }
     requires hexadecimal { all_digits digits.now ≡ true }
-    ensures { Cells bus.new ≡ stored_data (Cells bus.old) address digits.now (length digits.now / 2) }
+    ensures { B.cells bus.new ≡ stored_data (B.cells bus.old) address digits.now (length digits.now / 2) }
 {
     for n in 0..digits.len() / 2 {
         let _ = bus.store((usize::from(address) + n) as u16, byte_at(digits, n));

@@ -3,8 +3,8 @@ use Rattle.std.proofs.Common.{◌≡◌, length, arith, rules}
 use Rattle.console.proofs.LineLaws.{length-line, line_is, rest_after_feed, rest_at_end, laws}
 use Rattle.console.proofs.lines.split_line.Goals as goal
 
-pub split-at-requires : goal.split-at-requires
-split-at-requires c = omega (arith, length-line c.args.text.now)
+pub split_at-requires : goal.split_at-requires
+split_at-requires c = omega (arith, length-line c.args.text.now)
 
 pub returns-in-empty : goal.returns-in-empty
 returns-in-empty c =

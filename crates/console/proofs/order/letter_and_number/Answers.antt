@@ -4,11 +4,11 @@ use Rattle.console.specs.Order.{beside}
 use Rattle.console.proofs.OrderLaws.{parts_is}
 use Rattle.console.proofs.order.letter_and_number.Goals as goal
 
-pub returns-in-err-count : goal.returns-in-err-count
-returns-in-err-count c =
+pub returns-in_err-count : goal.returns-in_err-count
+returns-in_err-count c =
     let line = c.args.line.now in
     let blank : get_or line 1 0 ≡ 32 = search rules in
-    c.from-residual.ensures ∙ sym (parts_is line blank ∙ ap (beside (get_or line 0 0)) (sym c.in-err-count.ensures))
+    c.from_residual.ensures ∙ sym (parts_is line blank ∙ ap (beside (get_or line 0 0)) (sym c.in_err-count.ensures))
 
 pub returns : goal.returns
 returns c =

@@ -14,4 +14,4 @@ added row before text after e f =
     (regroup before (column 6 row.line) (column 6 row.steps) (column 8 row.cycles) (column 3 row.refusal) (column 6 row.pc) (column 4 row.a) (column 6 row.hx) (column 6 row.sp) (column 4 row.ccr) (10 ∷ []))
 
 pub returns : goal.returns
-returns c = added c.args.row.now (vec_items c.args.text.now) _ _ c.reserve.ensures.items c.push-columns.ensures
+returns c = added c.args.row.now (vec_items c.args.text.now) _ _ c.reserve.ensures.items c.push_columns.ensures

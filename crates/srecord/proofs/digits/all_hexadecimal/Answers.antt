@@ -3,11 +3,11 @@ use Rattle.std.proofs.lemmas.List.{at_drop_more, at_drop_all}
 use Rattle.srecord.specs.Digits.{all_digits}
 use Rattle.srecord.proofs.digits.all_hexadecimal.Goals as goal
 
-pub returns-in-default : goal.returns-in-default
-returns-in-default c =
+pub returns-in_default : goal.returns-in_default
+returns-in_default c =
     let characters = c.args.characters.now in
     let place = c.loop-character.character-index in
-    let some_left : all_digits (drop place characters) ≡ false = at_drop_more all_digits characters place 0 c.loop-character-test.true ∙ ap (λ o. is_some o && all_digits (drop (place + 1) characters)) (sym c.digit.ensures ∙ c.in-default.is) in
+    let some_left : all_digits (drop place characters) ≡ false = at_drop_more all_digits characters place 0 c.loop-character-test.true ∙ ap (λ o. is_some o && all_digits (drop (place + 1) characters)) (sym c.digit.ensures ∙ c.in_default.is) in
     let none : all_digits characters ≡ false = sym c.loop-character.invariant ∙ some_left in
     simp none
 

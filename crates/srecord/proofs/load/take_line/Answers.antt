@@ -5,15 +5,15 @@ use Rattle.srecord.proofs.Reading.{formed}
 use Rattle.srecord.proofs.Spelling.{data_spelled}
 use Rattle.srecord.proofs.load.take_line.Goals as goal
 
-pub take-record-requires : goal.take-record-requires
-take-record-requires g c =
-    let read = sym c.in-ok-read-record.ensures in
-    record { loading = c.if-ended.false; formed = formed c.args.line.now (parsed_by c.in-ok-read-record.field-0) read }
+pub take_record-requires : goal.take_record-requires
+take_record-requires g c =
+    let read = sym c.in_ok-read_record.ensures in
+    record { loading = c.if-ended.false; formed = formed c.args.line.now (parsed_by c.in_ok-read_record.field-0) read }
 
 pub returns : goal.returns
 returns g c =
     let cells = g.B.Bus.cells c.args.bus.now in
     let taken = line_taken c.args.ended.now cells c.args.line.now in
-    let answered : c.take-record.result ≡ taken.answer = search rules in
-    let left : g.B.Bus.cells c.take-record.new.bus ≡ taken.memory = search rules in
+    let answered : c.take_record.result ≡ taken.answer = search rules in
+    let left : g.B.Bus.cells c.take_record.new.bus ≡ taken.memory = search rules in
     record { answer = answered; ending = search rules; memory = left; cells-spelled = data_spelled c.args.line.now cells c.args.ended.now _ _ answered left }

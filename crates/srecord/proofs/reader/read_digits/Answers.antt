@@ -8,20 +8,20 @@ use Rattle.srecord.proofs.Reading.{counted}
 use Rattle.srecord.proofs.Refusals.{passed, refused_same}
 use Rattle.srecord.proofs.reader.read_digits.Goals as goal
 
-pub returns-in-err-all-hexadecimal : goal.returns-in-err-all-hexadecimal
-returns-in-err-all-hexadecimal c =
-    let exit = err_from_is_err_and c.from-residual.result c.from-residual.ensures.1 in
-    rw (exit.1, exit.2) (refused_same (all_digits c.args.digits.now) _ _ tt _ c.in-err-all-hexadecimal.ensures)
+pub returns-in_err-all_hexadecimal : goal.returns-in_err-all_hexadecimal
+returns-in_err-all_hexadecimal c =
+    let exit = err_from_is_err_and c.from_residual.result c.from_residual.ensures.1 in
+    rw (exit.1, exit.2) (refused_same (all_digits c.args.digits.now) _ _ tt _ c.in_err-all_hexadecimal.ensures)
 
-pub returns-then-not-is-right-length : goal.returns-then-not-is-right-length
-returns-then-not-is-right-length c =
-    let all = (passed (all_digits c.args.digits.now) _ _ _ (sym c.in-ok-all-hexadecimal.ensures)).0 in
-    sym (cond-true _ _ _ all ∙ cond-false _ _ _ (sym c.if-not-is-right-length.ensures))
+pub returns-then-not-is_right_length : goal.returns-then-not-is_right_length
+returns-then-not-is_right_length c =
+    let all = (passed (all_digits c.args.digits.now) _ _ _ (sym c.in_ok-all_hexadecimal.ensures)).0 in
+    sym (cond-true _ _ _ all ∙ cond-false _ _ _ (sym c.if-not-is_right_length.ensures))
 
-pub returns-then-not-is-right-checksum : goal.returns-then-not-is-right-checksum
-returns-then-not-is-right-checksum c =
-    let all = (passed (all_digits c.args.digits.now) _ _ _ (sym c.in-ok-all-hexadecimal.ensures)).0 in
-    sym (cond-true _ _ _ all ∙ (cond-true _ _ _ (sym c.if-not-is-right-length.ensures) ∙ cond-false _ _ _ (sym c.if-not-is-right-checksum.ensures)))
+pub returns-then-not-is_right_checksum : goal.returns-then-not-is_right_checksum
+returns-then-not-is_right_checksum c =
+    let all = (passed (all_digits c.args.digits.now) _ _ _ (sym c.in_ok-all_hexadecimal.ensures)).0 in
+    sym (cond-true _ _ _ all ∙ (cond-true _ _ _ (sym c.if-not-is_right_length.ensures) ∙ cond-false _ _ _ (sym c.if-not-is_right_checksum.ensures)))
 
 pub returns : goal.returns
 returns c =

@@ -6,7 +6,7 @@ use Rattle.machine.proofs.execute.execute.Goals as goal
 
 pub returns : goal.returns
 returns g c =
-    c.carry-out.ensures
+    c.carry_out.ensures
     ∙ sym
     (after_ok
     (carried_out c.args.registers c.args.lines)
@@ -16,4 +16,4 @@ returns g c =
     _
     _
     c.decode.ensures
-    c.in-ok-decoded.was)
+    c.in_ok-decoded.was)

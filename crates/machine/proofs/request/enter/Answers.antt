@@ -4,10 +4,10 @@ use Rattle.machine.specs.Request.{pushed_frame, vectored}
 use Rattle.machine.proofs.Sequence.{after_ok, after_err}
 use Rattle.machine.proofs.request.enter.Goals as goal
 
-pub returns-in-err-push-frame : goal.returns-in-err-push-frame
-returns-in-err-push-frame g c =
+pub returns-in_err-push_frame : goal.returns-in_err-push_frame
+returns-in_err-push_frame g c =
     let figure = g.C.Core.entry_figure c.args.core.now in
-    let p = err_from_is_err_and c.from-residual.result c.from-residual.ensures.1 in
+    let p = err_from_is_err_and c.from_residual.result c.from_residual.ensures.1 in
     rw (p.1, p.2)
     (sym
     (after_err
@@ -17,13 +17,13 @@ returns-in-err-push-frame g c =
     _
     _
     _
-    c.push-frame.ensures
-    c.in-err-push-frame.was))
+    c.push_frame.ensures
+    c.in_err-push_frame.was))
 
 pub returns : goal.returns
 returns g c =
     let figure = g.C.Core.entry_figure c.args.core.now in
-    c.go-to-vector.ensures
+    c.go_to_vector.ensures
     ∙ sym
     (after_ok
     (λ _. vectored figure c.args.registers c.args.lines)
@@ -32,5 +32,5 @@ returns g c =
     _
     _
     _
-    c.push-frame.ensures
-    c.in-ok-push-frame.was)
+    c.push_frame.ensures
+    c.in_ok-push_frame.was)

@@ -16,4 +16,4 @@ returns g c =
     let taken = line_taken c.args.ended.now cells c.args.line.now in
     let answered : c.take_record.result ≡ taken.answer = search rules in
     let left : g.B.Bus.cells c.take_record.new.bus ≡ taken.memory = search rules in
-    record { answer = answered; ending = search rules; memory = left; cells-spelled = data_spelled c.args.line.now cells c.args.ended.now _ _ answered left }
+    record { answer = answered; ending = search rules; memory = left; cells_spelled = data_spelled c.args.line.now cells c.args.ended.now _ _ answered left }

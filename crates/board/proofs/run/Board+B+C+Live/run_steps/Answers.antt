@@ -58,4 +58,4 @@ returns g c =
     (at c.if-steps-budget.self)
     (c.loop-steps.steps, c.loop-steps.cycles, c.end-number.result)
     e.0 in
-    record { meaning = e.0; core = e.1; clock-is-start-plus-cycles = laws.0; steps-within-budget = laws.1 }
+    record { meaning = e.0; core = e.1; clock_is_start_plus_cycles = laws.0; steps_within_budget = laws.1 }

@@ -28,17 +28,17 @@ loop-steps-preserved g c =
     )
 
 -- the loop breaks with the budget spent, or with the refusal of a step
-ended : (g : given.Over) (c : goal.After-end-number g) →
-    (◌≡◌ {A = Ran} ((c.loop-steps.steps, c.loop-steps.cycles, c.end-number.result), situation {C = g.row.C.Denot} {S = Live} g.B.Bus.cells c.if-steps-budget.self) (run_taken (g.C.Core.table c.args.self.now.core) (g.C.Core.entry_figure c.args.self.now.core) c.args.budget (situation {C = g.row.C.Denot} {S = Live} g.B.Bus.cells c.args.self.now)))
+ended : (g : given.Over) (c : goal.After-end_number g) →
+    (◌≡◌ {A = Ran} ((c.loop-steps.steps, c.loop-steps.cycles, c.end_number.result), situation {C = g.row.C.Denot} {S = Live} g.B.Bus.cells c.if-steps-budget.self) (run_taken (g.C.Core.table c.args.self.now.core) (g.C.Core.entry_figure c.args.self.now.core) c.args.budget (situation {C = g.row.C.Denot} {S = Live} g.B.Bus.cells c.args.self.now)))
     × (c.if-steps-budget.self.core ≡ c.args.self.now.core)
 ended g c =
     elim c.if-steps-budget.branch [
       | then-steps-budget w ↦
-          let number : c.end-number.result ≡ 0 = c.end-number.ensures ∙ ap end_number w.ended-is in
+          let number : c.end_number.result ≡ 0 = c.end_number.ensures ∙ ap end_number w.ended-is in
           let whole = spent_all c.loop-steps.invariant.3 w.if-steps-budget.true in
           (cc (number, whole, w.self-is), cc (w.self-is, c.loop-steps.invariant.2))
       | else-steps-budget+in-Err w ↦
-          let number : c.end-number.result ≡ refusal_number w.in-Err.refusal = c.end-number.ensures ∙ ap end_number w.ended-is in
+          let number : c.end_number.result ≡ refusal_number w.in-Err.refusal = c.end_number.ensures ∙ ap end_number w.ended-is in
           let more : c.loop-steps.steps < c.args.budget = omega arith in
           let whole = refused c.loop-steps.invariant.3 _ w.in-Err.refusal more (on_core g _ _ _ (situation g.B.Bus.cells c.loop-steps.self) _ c.loop-steps.invariant.2 w.in-Err.ensures.meaning) in
           (cc (number, whole, w.self-is), cc (w.self-is, w.step.ensures.core, c.loop-steps.invariant.2))
@@ -56,6 +56,6 @@ returns g c =
     c.args.budget
     (at c.args.self.now)
     (at c.if-steps-budget.self)
-    (c.loop-steps.steps, c.loop-steps.cycles, c.end-number.result)
+    (c.loop-steps.steps, c.loop-steps.cycles, c.end_number.result)
     e.0 in
     record { meaning = e.0; core = e.1; clock_is_start_plus_cycles = laws.0; steps_within_budget = laws.1 }

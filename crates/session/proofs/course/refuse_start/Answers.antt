@@ -4,6 +4,6 @@ use Rattle.session.proofs.course.refuse_start.Goals as goal
 
 pub returns : goal.returns
 returns c =
-    c.in-ok-push-row.ensures
-    ∙ ap (λ (text : List ℕ). text ++ row_bytes c.blank-row.result) c.new-text.ensures.items
-    ∙ ap row_bytes c.blank-row.ensures
+    c.in_ok-push_row.ensures
+    ∙ ap (λ (text : List ℕ). text ++ row_bytes c.blank_row.result) c.new-text.ensures.items
+    ∙ ap row_bytes c.blank_row.ensures

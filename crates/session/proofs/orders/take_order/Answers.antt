@@ -15,17 +15,17 @@ pub returns : goal.returns
 returns g c =
     let core = c.args.board.now.core in
     let obey = λ (o : Option Order). obeyed (g.C.Core.table core) (g.C.Core.entry_figure core) o (situation g.B.Bus.cells c.args.board.now) in
-    let parsed = c.parse-order.ensures in
+    let parsed = c.parse_order.ensures in
     let outcome = c.obey-outcome.ensures.outcome ∙ ap (λ (o : Option Order). (obey o).0) parsed in
     let after = c.obey-outcome.ensures.board ∙ ap (λ (o : Option Order). (obey o).1) parsed in
     let shown = c.registers.ensures ∙ ap (λ (s : Situation Live). s.stage.registers) after in
     let row =
-    c.register-row.ensures
+    c.register_row.ensures
     ∙ ap (λ (o : Outcome). register_row c.args.number o c.registers.result) outcome
     ∙ ap (register_row c.args.number (obey (order_of c.args.line.now)).0) shown in
     let text = vec_items c.args.text.now in
     record {
       board = after;
       core = c.obey-outcome.ensures.core;
-      text = c.push-row.ensures ∙ ap (λ (r : RegisterRow). cond (is_ok c.push-row.result) (text ++ row_bytes r) text) row;
+      text = c.push_row.ensures ∙ ap (λ (r : RegisterRow). cond (is_ok c.push_row.result) (text ++ row_bytes r) text) row;
     }

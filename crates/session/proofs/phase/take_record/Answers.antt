@@ -5,18 +5,18 @@ use Rattle.session.specs.Phase.{Said, record_answered}
 use Rattle.session.proofs.phase.take_record.Goals as goal
 
 -- want of memory leaves the text as it was
-pub returns-in-err-push-row : goal.returns-in-err-push-row
-returns-in-err-push-row g c =
-    let p = err_from_is_err_and c.from-residual.result c.from-residual.ensures.1 in
-    rw p.1 (record { shown = tt; core = tt; text = c.in-err-push-row.ensures })
+pub returns-in_err-push_row-in-Err : goal.returns-in_err-push_row-in-Err
+returns-in_err-push_row-in-Err g c =
+    let p = err_from_is_err_and c.from_residual.result c.from_residual.ensures.1 in
+    rw p.1 (record { shown = tt; core = tt; text = c.in_err-push_row-in-Err.ensures })
 
 -- a refused line adds its row, and the board goes on loading
-pub returns-in-ok-push-row : goal.returns-in-ok-push-row
-returns-in-ok-push-row g c =
+pub returns-in_ok-push_row-in-Err : goal.returns-in_ok-push_row-in-Err
+returns-in_ok-push_row-in-Err g c =
     let said = ap (record_answered c.args.number) c.in-Err.ensures.meaning in
-    let row = ap row_bytes c.blank-row.ensures ∙ ap (λ (s : Said). s.0) said in
+    let row = ap row_bytes c.blank_row.ensures ∙ ap (λ (s : Said). s.0) said in
     record {
       shown = ap (λ (s : Said). s.1) said;
       core = c.line.ensures.core;
-      text = c.in-ok-push-row.ensures ∙ ap (λ (bytes : List ℕ). vec_items c.args.text.now ++ bytes) row;
+      text = c.in_ok-push_row-in-Err.ensures ∙ ap (λ (bytes : List ℕ). vec_items c.args.text.now ++ bytes) row;
     }

@@ -61,7 +61,7 @@ fn making(rt: HostRuntime) -> Result<(), Fail> {
     } = refused;
     assert_eq!(rt; refusal.number(), 35);
     assert_eq!(rt; core.entry_cycles(), 11);
-    assert_eq!(rt; memory.into_bytes().as_slice(), &[1, 2, 3]);
+    assert_eq!(rt; memory.into_bytes().as_slice(), [1, 2, 3].as_slice());
     assert_eq!(rt; loading(rt.alloc(), 0, CLOCK_LIMIT)?.clock(), CLOCK_LIMIT);
     Ok(())
 }

@@ -23,7 +23,7 @@ fn open_memory(rt: HostRuntime) -> Result<(), Fail> {
     }
     assert_eq!(rt; BusRefusal::MissingCell.number(), 1);
     assert_eq!(rt; BusRefusal::GuardedCell.number(), 2);
-    assert_eq!(rt; memory.into_bytes().as_slice(), &[20, 11, 12, 23]);
+    assert_eq!(rt; memory.into_bytes().as_slice(), [20, 11, 12, 23].as_slice());
     Ok(())
 }
 

@@ -70,7 +70,7 @@ fn widest_row(rt: HostRuntime) -> Result<(), Fail> {
     push_row(&mut text, &row)?;
     assert_eq!(rt;
         text.as_slice(),
-        b"99999999999999999999255 65535 255 65535 65535 255\n"
+        b"99999999999999999999255 65535 255 65535 65535 255\n".as_slice()
     );
     Ok(())
 }

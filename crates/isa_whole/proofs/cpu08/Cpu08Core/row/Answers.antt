@@ -5,4 +5,4 @@ use Rattle.isa_whole.proofs.cpu08.Cpu08Core.row.Goals as goal
 
 pub returns : goal.returns
 returns c =
-    row_read cpu08_table c.args.page c.args.opcode c.rows.result.now c.row-of.result c.rows.ensures c.row-of.ensures (omega arith)
+    row_read cpu08_table c.args.page c.args.opcode c.rows.result.now c.row_of.result c.rows.ensures c.row_of.ensures (omega arith)

@@ -5,10 +5,10 @@ use Rattle.calls.specs.Interrupt.{pushed_frame, vectored}
 use Rattle.operands.specs.Leaves.{leaves}
 use Rattle.calls.proofs.interrupt.interrupt.Goals as goal
 
-pub returns-in-err-push-frame : goal.returns-in-err-push-frame
-returns-in-err-push-frame g c =
+pub returns-in_err-push_frame : goal.returns-in_err-push_frame
+returns-in_err-push_frame g c =
     let r = c.args.registers.now in
-    let p = err_from_is_err_and c.from-residual.result c.from-residual.ensures.1 in
+    let p = err_from_is_err_and c.from_residual.result c.from_residual.ensures.1 in
     rw (p.1, p.2)
     (ap (leaves r)
     (sym
@@ -19,13 +19,13 @@ returns-in-err-push-frame g c =
     _
     _
     _
-    c.push-frame.ensures
-    c.in-err-push-frame.was)))
+    c.push_frame.ensures
+    c.in_err-push_frame.was)))
 
 pub returns : goal.returns
 returns g c =
     let r = c.args.registers.now in
-    c.go-to-vector.ensures
+    c.go_to_vector.ensures
     ∙ ap (leaves r)
     (sym
     (after_ok
@@ -35,5 +35,5 @@ returns g c =
     _
     _
     _
-    c.push-frame.ensures
-    c.in-ok-push-frame.was))
+    c.push_frame.ensures
+    c.in_ok-push_frame.was))

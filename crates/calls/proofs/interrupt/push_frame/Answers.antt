@@ -8,7 +8,7 @@ use Rattle.calls.proofs.interrupt.push_frame.Goals as goal
 pub returns : goal.returns
 returns g c =
     let r = c.args.registers.now in
-    c.push-operands.ensures
+    c.push_operands.ensures
     ∙ sym
     (after_ok
     (λ _. pushed_operands (before r.sp 2) r)
@@ -17,5 +17,5 @@ returns g c =
     _
     _
     _
-    c.push-word.ensures
-    c.in-ok-push-word.was)
+    c.push_word.ensures
+    c.in_ok-push_word.was)

@@ -12,7 +12,7 @@ use Rattle.calls.proofs.returns.return_from_interrupt.Goals as goal
 pub returns : goal.returns
 returns g c =
     let r = c.args.registers.now in
-    let kept : Registers → Result Unit Fault × Registers × Cells = λ s. (Ok tt, s, g.B.Bus.cells c.read-frame.new.bus) in
+    let kept : Registers → Result Unit Fault × Registers × Cells = λ s. (Ok tt, s, g.B.Bus.cells c.read_frame.new.bus) in
     ap kept c.restore.ensures
     ∙ ap (leaves r)
     (sym
@@ -23,5 +23,5 @@ returns g c =
     _
     _
     _
-    c.read-frame.ensures
-    c.in-ok-frame.was))
+    c.read_frame.ensures
+    c.in_ok-frame.was))

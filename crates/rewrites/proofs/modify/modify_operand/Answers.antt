@@ -9,10 +9,10 @@ use Rattle.operands.specs.Leaves.{leaves}
 use Rattle.rewrites.specs.Modify.{byte_read, byte_put_back}
 use Rattle.rewrites.proofs.modify.modify_operand.Goals as goal
 
-pub returns-in-err-byte : goal.returns-in-err-byte
-returns-in-err-byte g c =
+pub returns-in_err-byte : goal.returns-in_err-byte
+returns-in_err-byte g c =
     let r = c.args.registers.now in
-    let p = err_from_is_err_and c.from-residual.result c.from-residual.ensures.1 in
+    let p = err_from_is_err_and c.from_residual.result c.from_residual.ensures.1 in
     rw (p.1, p.2)
     (ap (leaves r)
     (sym
@@ -23,14 +23,14 @@ returns-in-err-byte g c =
     _
     _
     _
-    c.read-byte.ensures
-    c.in-err-byte.was)))
+    c.read_byte.ensures
+    c.in_err-byte.was)))
 
 pub returns : goal.returns
 returns g c =
     let r = c.args.registers.now in
-    c.put-back.ensures
-    ∙ ap (λ (o : ℕ × Flags). leaves r (perform (byte_put_back c.args.operation c.args.operand o r) (g.B.Bus.cells c.read-byte.new.bus))) c.modify-outcome.ensures
+    c.put_back.ensures
+    ∙ ap (λ (o : ℕ × Flags). leaves r (perform (byte_put_back c.args.operation c.args.operand o r) (g.B.Bus.cells c.read_byte.new.bus))) c.modify-outcome.ensures
     ∙ ap (leaves r)
     (sym
     (after_ok
@@ -40,5 +40,5 @@ returns g c =
     _
     _
     _
-    c.read-byte.ensures
-    c.in-ok-byte.was))
+    c.read_byte.ensures
+    c.in_ok-byte.was))

@@ -8,7 +8,7 @@ pub returns : goal.returns
 returns g c =
     let r = c.args.registers.now in
     let s = c.args.standing.now in
-    c.carry-out.ensures
+    c.carry_out.ensures
     ∙ ap (executes r s)
     (sym
     (after_ok
@@ -19,4 +19,4 @@ returns g c =
     _
     _
     c.decode.ensures
-    c.in-ok-decoded.was))
+    c.in_ok-decoded.was))

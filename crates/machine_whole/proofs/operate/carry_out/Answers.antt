@@ -6,7 +6,7 @@ returns-in-Ok g c =
     carried
     c.args.decoded
     c.args.registers.now
-    c.move-on.new.registers
+    c.move_on.new.registers
     c.operate.new.registers
     c.args.standing.now
     c.operate.new.standing
@@ -14,7 +14,7 @@ returns-in-Ok g c =
     (g.B.Bus.cells c.args.bus.now)
     (g.B.Bus.cells c.operate.new.bus)
     c.operate.result
-    c.move-on.ensures
+    c.move_on.ensures
     c.operate.ensures.meaning
     c.operate.ensures.standing
     c.in-Ok.is
@@ -24,7 +24,7 @@ returns-in-Err g c =
     halted
     c.args.decoded
     c.args.registers.now
-    c.move-on.new.registers
+    c.move_on.new.registers
     c.operate.new.registers
     c.args.standing.now
     c.operate.new.standing
@@ -33,7 +33,7 @@ returns-in-Err g c =
     (g.B.Bus.cells c.operate.new.bus)
     c.operate.result
     c.in-Err.fault
-    c.move-on.ensures
+    c.move_on.ensures
     c.operate.ensures.meaning
     c.operate.ensures.standing
     c.in-Err.is

@@ -18,9 +18,10 @@ use std::alloc::Global;
 use std::process::Abort;
 use std::test::Fail;
 
-// The parts of a case, but for the cycles.
+// The parts of a case, but for the cycles, and its whole text for what a failed check says.
 #[derive(Clone, Copy)]
 struct Case<'a> {
+    text: &'a str,
     before: &'a str,
     code: &'a str,
     cells: &'a str,
@@ -107,13 +108,11 @@ fn carry_out(
     let mut expected = set_up(rt, heap, size, case)?;
     store_cells(&mut expected, case.stores)?;
     let answer = execute(&mut memory, &core, &mut registers, &mut standing, 0);
-    assert_eq!(rt;
-        columns(&registers),
-        columns(&registers_of(rt, case.after)?)
-    );
-    assert_eq!(rt; standing, Standing::Running);
+    let wanted = registers_of(rt, case.after)?;
+    assert_eq!(rt; columns(&registers), columns(&wanted), "{}", case.text);
+    assert_eq!(rt; standing, Standing::Running, "{}", case.text);
     let (left, wanted) = (memory.into_bytes(), expected.into_bytes());
-    assert!(rt; left.as_slice() == wanted.as_slice());
+    assert!(rt; left.as_slice() == wanted.as_slice(), "{}", case.text);
     Ok(answer)
 }
 
@@ -137,11 +136,11 @@ fn holds_on(
     };
     match carry_out(rt, heap, core, 65_536, expected)? {
         Ok(taken) => {
-            assert_eq!(rt; taken, cycles);
+            assert_eq!(rt; taken, cycles, "{}", case.text);
             Ok(())
         },
         Err(Fault::NoInstruction) => {
-            assert_eq!(rt; 0, cycles);
+            assert_eq!(rt; 0, cycles, "{}", case.text);
             Ok(())
         },
         Err(Fault::MissingCell) => Err(Fail::new("a cell is missing")),
@@ -155,6 +154,7 @@ fn holds_on_both(rt: &impl Abort, heap: Global, text: &str) -> Result<(), Fail> 
     let (after, rest) = cut(rest)?;
     let (stores, cycles) = cut(rest)?;
     let case = Case {
+        text,
         before,
         code,
         cells,
@@ -169,7 +169,7 @@ fn holds_on_both(rt: &impl Abort, heap: Global, text: &str) -> Result<(), Fail> 
 // Checks that cases hold.
 pub(crate) fn hold(rt: &impl Abort, heap: Global, cases: &[&str]) -> Result<(), Fail> {
     for text in cases {
-        holds_on_both(rt, heap, *text).note(*text)?;
+        holds_on_both(rt, heap, *text)?;
     }
     Ok(())
 }
@@ -185,6 +185,7 @@ fn faults_on(
     let (code, rest) = cut(rest)?;
     let (cells, stores) = cut(rest)?;
     let case = Case {
+        text,
         before,
         code,
         cells,
@@ -207,8 +208,8 @@ pub(crate) fn fault(
     cases: &[&str],
 ) -> Result<(), Fail> {
     for text in cases {
-        faults_on(rt, heap, Model::Cpu08, size, *text).note(*text)?;
-        faults_on(rt, heap, Model::Hcs08, size, *text).note(*text)?;
+        faults_on(rt, heap, Model::Cpu08, size, *text)?;
+        faults_on(rt, heap, Model::Hcs08, size, *text)?;
     }
     Ok(())
 }

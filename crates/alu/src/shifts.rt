@@ -7,16 +7,16 @@ ghost use Rattle.alu.specs.Shifts.{shift_of, shift_left_of, rotate_left_of, shif
 use crate::flags::Flags;
 
 // The flags that a shift leaves: C is the bit shifted out.
-fn shifted(res: u8, out: bool, flags: Flags) -> (u8, Flags)
-    ensures { result ≡ shift_of res out flags }
+fn shifted(byte: u8, out: bool, flags: Flags) -> (u8, Flags)
+    ensures { result ≡ shift_of byte out flags }
 {
-    let flags = flags.with_byte(res);
+    let flags = flags.with_byte(byte);
     let flags = Flags {
         v: flags.n != out,
         c: out,
         ..flags
     };
-    (res, flags)
+    (byte, flags)
 }
 
 // To the left, with a 0 from the right.

@@ -1,6 +1,6 @@
 -- What holds of the first line of a text. Assumes nothing.
 use Rattle.std.proofs.Common.{◌≡◌, ℕ, suc, ◌+◌, ◌-◌, ◌<◌, ◌≤◌, Bool, true, false, cond, eqb, ◌≢◌, List, [], ◌∷◌, length, get_or, take, drop, sym, refl, ap, ◌∙◌, inl, inr, ⊎_elim, add-one, arith}
-use Rattle.std.specs.List.{AllByRecursion as All}
+use Rattle.std.specs.List.{AllByRecursion}
 use Rattle.std.proofs.lemmas.List.{at_drop_more, at_drop_all, take_rest, drop-drop, drop_all, length-drop, nil_from_length}
 use Rattle.std.proofs.lemmas.Bool.{eqb-true, eqb-false, eq-eqb, ne_eqb, cond-true, cond-false}
 use Rattle.console.specs.Lines.{first_line, after_line, longer_first, lines_of, Splits}
@@ -28,9 +28,9 @@ drop-line [] = refl
 drop-line (c ∷ cs) =
     by_feed c (λ b. drop (length (cond b [] (c ∷ first_line cs))) cs ≡ cond b cs (after_line cs)) (λ _. refl) (λ _. drop-line cs)
 
-pub line_feedless : (text : List ℕ) → All (λ c. c ≢ 10) (first_line text)
+pub line_feedless : (text : List ℕ) → AllByRecursion (λ c. c ≢ 10) (first_line text)
 line_feedless [] = tt
-line_feedless (c ∷ cs) = by_feed c (λ b. All (λ x. x ≢ 10) (cond b [] (c ∷ first_line cs))) (λ _. tt) (λ n. (n, line_feedless cs))
+line_feedless (c ∷ cs) = by_feed c (λ b. AllByRecursion (λ x. x ≢ 10) (cond b [] (c ∷ first_line cs))) (λ _. tt) (λ n. (n, line_feedless cs))
 
 pub line_splits : (text : List ℕ) → Splits text (first_line text) (after_line text)
 line_splits [] = inr (refl, refl)
@@ -83,7 +83,7 @@ rest_at_end text after n e f z =
 pub record Laws (text line rest : List ℕ) : Type 0 where
   pub lines : lines_of text ≡ line ∷ lines_of rest
   pub splits : Splits text line rest
-  pub feedless : All (λ c. c ≢ 10) line
+  pub feedless : AllByRecursion (λ c. c ≢ 10) line
   pub shorter : length rest < length text
 
 pub laws : (text line rest : List ℕ) → 0 < length text → line ≡ first_line text → rest ≡ after_line text → Laws text line rest

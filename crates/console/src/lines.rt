@@ -1,6 +1,6 @@
 // The lines of a text. A line feed ends a line, and nothing follows a final one.
 ghost use Rattle.std.specs.Prelude.{◌≡◌, ◌<◌, ◌≢◌, [], ◌∷◌, length, MatchOption};
-ghost use Rattle.std.specs.List.{AllByRecursion as All};
+ghost use Rattle.std.specs.List.{AllByRecursion};
 ghost use Rattle.console.specs.Lines.{first_line, after_line, lines_of, Splits};
 
 // How many characters stand before the first line feed, or before the end.
@@ -22,7 +22,7 @@ fn split_line(text: &[u8]) -> (&[u8], &[u8])
     ensures rest { result.1.now ≡ after_line text.now }
     ensures lines { lines_of text.now ≡ result.0.now ∷ lines_of result.1.now }
     ensures splits { Splits text.now result.0.now result.1.now }
-    ensures feedless { All (λ c. c ≢ 10) result.0.now }
+    ensures feedless { AllByRecursion (λ c. c ≢ 10) result.0.now }
     ensures shorter { length result.1.now < length text.now }
 {
     let (line, after) = text.split_at(line_length(text));
@@ -38,7 +38,7 @@ pub fn next_line(text: &[u8]) -> Option<(&[u8], &[u8])>
     ensures rest { MatchOption result (text.now ≡ []) (λ split. split.1.now ≡ after_line text.now) }
     ensures lines { MatchOption result (lines_of text.now ≡ []) (λ split. lines_of text.now ≡ split.0.now ∷ lines_of split.1.now) }
     ensures splits { MatchOption result (text.now ≡ []) (λ split. Splits text.now split.0.now split.1.now) }
-    ensures feedless { MatchOption result (text.now ≡ []) (λ split. All (λ c. c ≢ 10) split.0.now) }
+    ensures feedless { MatchOption result (text.now ≡ []) (λ split. AllByRecursion (λ c. c ≢ 10) split.0.now) }
     ensures shorter { MatchOption result (text.now ≡ []) (λ split. length split.1.now < length text.now) }
 {
     if text.is_empty() {

@@ -46,6 +46,6 @@ const TESTS: &[&str] = &[
 
 #[test]
 fn bits(rt: HostRuntime) -> Result<(), Fail> {
-    hold(&rt, rt.alloc(), SETS)?;
-    hold(&rt, rt.alloc(), TESTS)
+    hold(rt.alloc(), SETS)?;
+    hold(rt.alloc(), TESTS)
 }

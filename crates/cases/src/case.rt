@@ -5,6 +5,7 @@
 // - the registers after,
 // - the cells that are stored,
 // - the cycles on the CPU08 and on the HCS08, in decimal digits; 0 where the core has no such instruction.
+use crate::check::check_eq;
 use access::fault::Fault;
 use alu::flags::Flags;
 use alu::words::{high_byte, low_byte};
@@ -15,7 +16,6 @@ use machine_whole::execute::execute;
 use state::registers::Registers;
 use state::standing::Standing;
 use std::alloc::Global;
-use std::process::Abort;
 use std::test::Fail;
 
 // The parts of a case, but for the cycles, and its whole text for what a failed check says.
@@ -42,14 +42,16 @@ fn word(text: Option<&str>) -> Result<u16, Fail> {
     Ok(u16::from_str_radix(text.ok_or("a word is missing")?, 16)?)
 }
 
-fn registers_of(rt: &impl Abort, text: &str) -> Result<Registers, Fail> {
+fn registers_of(text: &str) -> Result<Registers, Fail> {
     let mut words = text.split_whitespace();
     let a = byte(words.next())?;
     let hx = word(words.next())?;
     let sp = word(words.next())?;
     let pc = word(words.next())?;
     let flags = Flags::from_byte(byte(words.next())?);
-    assert!(rt; words.next().is_none());
+    if words.next().is_some() {
+        return Err(Fail::new(format_args!("more than six words: {text}")));
+    }
     let (h, x) = (high_byte(hx), low_byte(hx));
     Ok(Registers {
         a,
@@ -83,9 +85,9 @@ fn store_cells(memory: &mut OpenMemory, cells: &str) -> Result<(), Fail> {
 }
 
 // A memory of so many cells that holds a case's instruction and cells.
-fn set_up(rt: &impl Abort, heap: Global, size: usize, case: Case<'_>) -> Result<OpenMemory, Fail> {
+fn set_up(heap: Global, size: usize, case: Case<'_>) -> Result<OpenMemory, Fail> {
     let mut memory = OpenMemory::new(vec![in heap; 0u8; size]?);
-    let mut address = registers_of(rt, case.before)?.pc;
+    let mut address = registers_of(case.before)?.pc;
     for code in case.code.split_whitespace() {
         memory.store(address, byte(Some(code))?)?;
         address = address.wrapping_add(1);
@@ -96,34 +98,29 @@ fn set_up(rt: &impl Abort, heap: Global, size: usize, case: Case<'_>) -> Result<
 
 // Executes a case's instruction, checks the registers and every cell, and hands on the answer.
 fn carry_out(
-    rt: &impl Abort,
     heap: Global,
     core: Model,
     size: usize,
     case: Case<'_>,
 ) -> Result<Result<u8, Fault>, Fail> {
-    let mut registers = registers_of(rt, case.before)?;
+    let mut registers = registers_of(case.before)?;
     let mut standing = Standing::Running;
-    let mut memory = set_up(rt, heap, size, case)?;
-    let mut expected = set_up(rt, heap, size, case)?;
+    let mut memory = set_up(heap, size, case)?;
+    let mut expected = set_up(heap, size, case)?;
     store_cells(&mut expected, case.stores)?;
     let answer = execute(&mut memory, &core, &mut registers, &mut standing, 0);
-    let wanted = registers_of(rt, case.after)?;
-    assert_eq!(rt; columns(&registers), columns(&wanted), "{}", case.text);
-    assert_eq!(rt; standing, Standing::Running, "{}", case.text);
+    let wanted = registers_of(case.after)?;
+    check_eq(columns(&registers), columns(&wanted), case.text)?;
+    check_eq(standing, Standing::Running, case.text)?;
     let (left, wanted) = (memory.into_bytes(), expected.into_bytes());
-    assert!(rt; left.as_slice() == wanted.as_slice(), "{}", case.text);
+    if left.as_slice() != wanted.as_slice() {
+        return Err(Fail::new(format_args!("other cells: {}", case.text)));
+    }
     Ok(answer)
 }
 
 // Checks a case on one core. Where that has no such instruction, nothing changes.
-fn holds_on(
-    rt: &impl Abort,
-    heap: Global,
-    core: Model,
-    cycles: &str,
-    case: Case<'_>,
-) -> Result<(), Fail> {
+fn holds_on(heap: Global, core: Model, cycles: &str, case: Case<'_>) -> Result<(), Fail> {
     let cycles = cycles.parse::<u8>()?;
     let expected = if cycles == 0 {
         Case {
@@ -134,20 +131,14 @@ fn holds_on(
     } else {
         case
     };
-    match carry_out(rt, heap, core, 65_536, expected)? {
-        Ok(taken) => {
-            assert_eq!(rt; taken, cycles, "{}", case.text);
-            Ok(())
-        },
-        Err(Fault::NoInstruction) => {
-            assert_eq!(rt; 0, cycles, "{}", case.text);
-            Ok(())
-        },
-        Err(Fault::MissingCell) => Err(Fail::new("a cell is missing")),
+    match carry_out(heap, core, 65_536, expected)? {
+        Ok(taken) => check_eq(taken, cycles, case.text),
+        Err(Fault::NoInstruction) => check_eq(0, cycles, case.text),
+        Err(Fault::MissingCell) => Err(Fail::new(format_args!("a cell is missing: {}", case.text))),
     }
 }
 
-fn holds_on_both(rt: &impl Abort, heap: Global, text: &str) -> Result<(), Fail> {
+fn holds_on_both(heap: Global, text: &str) -> Result<(), Fail> {
     let (before, rest) = cut(text)?;
     let (code, rest) = cut(rest)?;
     let (cells, rest) = cut(rest)?;
@@ -162,25 +153,19 @@ fn holds_on_both(rt: &impl Abort, heap: Global, text: &str) -> Result<(), Fail> 
         stores,
     };
     let mut words = cycles.split_whitespace();
-    holds_on(rt, heap, Model::Cpu08, words.next().unwrap_or(""), case)?;
-    holds_on(rt, heap, Model::Hcs08, words.next().unwrap_or(""), case)
+    holds_on(heap, Model::Cpu08, words.next().unwrap_or(""), case)?;
+    holds_on(heap, Model::Hcs08, words.next().unwrap_or(""), case)
 }
 
 // Checks that cases hold.
-pub(crate) fn hold(rt: &impl Abort, heap: Global, cases: &[&str]) -> Result<(), Fail> {
+pub(crate) fn hold(heap: Global, cases: &[&str]) -> Result<(), Fail> {
     for text in cases {
-        holds_on_both(rt, heap, *text)?;
+        holds_on_both(heap, *text)?;
     }
     Ok(())
 }
 
-fn faults_on(
-    rt: &impl Abort,
-    heap: Global,
-    core: Model,
-    size: usize,
-    text: &str,
-) -> Result<(), Fail> {
+fn faults_on(heap: Global, core: Model, size: usize, text: &str) -> Result<(), Fail> {
     let (before, rest) = cut(text)?;
     let (code, rest) = cut(rest)?;
     let (cells, stores) = cut(rest)?;
@@ -192,24 +177,19 @@ fn faults_on(
         after: before,
         stores,
     };
-    match carry_out(rt, heap, core, size, case)? {
+    match carry_out(heap, core, size, case)? {
         Err(Fault::MissingCell) => Ok(()),
-        Err(Fault::NoInstruction) => Err(Fail::new("no instruction")),
-        Ok(_) => Err(Fail::new("no fault")),
+        Err(Fault::NoInstruction) => Err(Fail::new(format_args!("no instruction: {text}"))),
+        Ok(_) => Err(Fail::new(format_args!("no fault: {text}"))),
     }
 }
 
 // Checks that cases answer a missing cell, in a memory of so many cells. Such a case has the registers
 // before, which stay as they are, the instruction's bytes, other cells, and the cells that are stored before the fault.
-pub(crate) fn fault(
-    rt: &impl Abort,
-    heap: Global,
-    size: usize,
-    cases: &[&str],
-) -> Result<(), Fail> {
+pub(crate) fn fault(heap: Global, size: usize, cases: &[&str]) -> Result<(), Fail> {
     for text in cases {
-        faults_on(rt, heap, Model::Cpu08, size, *text)?;
-        faults_on(rt, heap, Model::Hcs08, size, *text)?;
+        faults_on(heap, Model::Cpu08, size, *text)?;
+        faults_on(heap, Model::Hcs08, size, *text)?;
     }
     Ok(())
 }

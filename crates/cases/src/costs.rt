@@ -1,8 +1,8 @@
 // What every opcode costs.
+use crate::check::check_eq;
 use isa_whole::core08::Core;
 use isa_whole::model::Model;
 use isa_whole::row::Page;
-use std::process::Abort;
 use std::test::Fail;
 
 // Opcodes with their bytes, and their cycles on the CPU08 and the HCS08; 0 where the core has no such instruction.
@@ -119,7 +119,7 @@ fn known(core: Model, page: Page) -> u32 {
 }
 
 // Checks the opcodes of groups, and answers how many of them a core has.
-fn counted(rt: &impl Abort, core: Model, page: Page, groups: &[Group]) -> Result<u32, Fail> {
+fn counted(core: Model, page: Page, groups: &[Group]) -> Result<u32, Fail> {
     let mut count: u32 = 0;
     for group in groups {
         let (opcodes, bytes, on_cpu08, on_hcs08) = *group;
@@ -130,7 +130,7 @@ fn counted(rt: &impl Abort, core: Model, page: Page, groups: &[Group]) -> Result
         let expected = if cycles == 0 { (0, 0) } else { (bytes, cycles) };
         for opcode in opcodes.split_whitespace() {
             let opcode = u8::from_str_radix(opcode, 16)?;
-            assert_eq!(rt; cost(core, page, opcode), expected, "{}", opcode);
+            check_eq(cost(core, page, opcode), expected, opcode)?;
             if cycles != 0 {
                 count = count.wrapping_add(1);
             }
@@ -142,10 +142,10 @@ fn counted(rt: &impl Abort, core: Model, page: Page, groups: &[Group]) -> Result
 // The groups have each opcode that is an instruction, and no other is one.
 #[test]
 fn costs(rt: HostRuntime) -> Result<(), Fail> {
-    assert_eq!(rt; counted(&rt, Model::Cpu08, Page::First, FIRST)?, 249);
-    assert_eq!(rt; counted(&rt, Model::Cpu08, Page::Second, SECOND)?, 41);
-    assert_eq!(rt; counted(&rt, Model::Hcs08, Page::First, FIRST)?, 253);
-    assert_eq!(rt; counted(&rt, Model::Hcs08, Page::Second, SECOND)?, 47);
+    assert_eq!(rt; counted(Model::Cpu08, Page::First, FIRST)?, 249);
+    assert_eq!(rt; counted(Model::Cpu08, Page::Second, SECOND)?, 41);
+    assert_eq!(rt; counted(Model::Hcs08, Page::First, FIRST)?, 253);
+    assert_eq!(rt; counted(Model::Hcs08, Page::Second, SECOND)?, 47);
     assert_eq!(rt; known(Model::Cpu08, Page::First), 249);
     assert_eq!(rt; known(Model::Cpu08, Page::Second), 41);
     assert_eq!(rt; known(Model::Hcs08, Page::First), 253);

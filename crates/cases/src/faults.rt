@@ -62,6 +62,6 @@ const BLANK: &[&str] = &[
 
 #[test]
 fn faults(rt: HostRuntime) -> Result<(), Fail> {
-    fault(&rt, rt.alloc(), 256, MISSING)?;
-    hold(&rt, rt.alloc(), BLANK)
+    fault(rt.alloc(), 256, MISSING)?;
+    hold(rt.alloc(), BLANK)
 }

@@ -37,6 +37,6 @@ const INTERRUPTS: &[&str] = &[
 
 #[test]
 fn jumps(rt: HostRuntime) -> Result<(), Fail> {
-    hold(&rt, rt.alloc(), SUBROUTINES)?;
-    hold(&rt, rt.alloc(), INTERRUPTS)
+    hold(rt.alloc(), SUBROUTINES)?;
+    hold(rt.alloc(), INTERRUPTS)
 }

@@ -8,6 +8,8 @@ mod branches;
 #[cfg(test)]
 mod case;
 #[cfg(test)]
+mod check;
+#[cfg(test)]
 mod costs;
 #[cfg(test)]
 mod entry;

@@ -35,5 +35,5 @@ const COMBINES: &[&str] = &[
 
 #[test]
 fn combines(rt: HostRuntime) -> Result<(), Fail> {
-    hold(&rt, rt.alloc(), COMBINES)
+    hold(rt.alloc(), COMBINES)
 }

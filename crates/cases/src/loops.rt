@@ -37,6 +37,6 @@ const COUNTS: &[&str] = &[
 
 #[test]
 fn loops(rt: HostRuntime) -> Result<(), Fail> {
-    hold(&rt, rt.alloc(), EQUALS)?;
-    hold(&rt, rt.alloc(), COUNTS)
+    hold(rt.alloc(), EQUALS)?;
+    hold(rt.alloc(), COUNTS)
 }

@@ -46,5 +46,5 @@ const CHANGES: &[&str] = &[
 
 #[test]
 fn changes(rt: HostRuntime) -> Result<(), Fail> {
-    hold(&rt, rt.alloc(), CHANGES)
+    hold(rt.alloc(), CHANGES)
 }

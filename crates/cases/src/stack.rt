@@ -47,6 +47,6 @@ const REGISTERS: &[&str] = &[
 
 #[test]
 fn stack(rt: HostRuntime) -> Result<(), Fail> {
-    hold(&rt, rt.alloc(), STACK)?;
-    hold(&rt, rt.alloc(), REGISTERS)
+    hold(rt.alloc(), STACK)?;
+    hold(rt.alloc(), REGISTERS)
 }

@@ -44,6 +44,6 @@ const MOVES: &[&str] = &[
 
 #[test]
 fn stores(rt: HostRuntime) -> Result<(), Fail> {
-    hold(&rt, rt.alloc(), STORES)?;
-    hold(&rt, rt.alloc(), MOVES)
+    hold(rt.alloc(), STORES)?;
+    hold(rt.alloc(), MOVES)
 }

@@ -29,5 +29,5 @@ const WORDS: &[&str] = &[
 
 #[test]
 fn words(rt: HostRuntime) -> Result<(), Fail> {
-    hold(&rt, rt.alloc(), WORDS)
+    hold(rt.alloc(), WORDS)
 }

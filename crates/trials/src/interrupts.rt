@@ -37,7 +37,7 @@ fn waits(rt: HostRuntime) -> Result<(), Fail> {
         "    15     2      12  0 36881   1     1   245 104",
         "    16    10      30  0 36881   1     1   245 104",
     ];
-    answers(&rt, heap, "H", WAITING, &on_hcs08)?;
+    answers(heap, "H", WAITING, &on_hcs08)?;
     let on_cpu08 = [
         "     8     4       4  0 32769   0     0   255  96",
         "     9     0       0  0 32769   0     0   255  96",
@@ -49,7 +49,7 @@ fn waits(rt: HostRuntime) -> Result<(), Fail> {
         "    15     2      10  0 36881   1     1   245 104",
         "    16    10      30  0 36881   1     1   245 104",
     ];
-    answers(&rt, heap, "K", WAITING, &on_cpu08)
+    answers(heap, "K", WAITING, &on_cpu08)
 }
 
 // NOP, CLI, NOP; line 31 leads to SEI and STOP.
@@ -74,7 +74,6 @@ const MASKED: &[&str] = &[
 #[test]
 fn unmasks(rt: HostRuntime) -> Result<(), Fail> {
     answers(
-        &rt,
         rt.alloc(),
         "K",
         MASKED,

@@ -4,6 +4,8 @@
 #[cfg(test)]
 mod arithmetic;
 #[cfg(test)]
+mod check;
+#[cfg(test)]
 mod entry;
 #[cfg(test)]
 mod instructions;

@@ -1,4 +1,5 @@
 // The life of a board.
+use crate::check::check_eq;
 use board::board::{Board, CLOCK_LIMIT};
 use board::refusal::{Refusal, Refused};
 use board::stages::{Live, Loading};
@@ -7,7 +8,6 @@ use isa::core08::Core;
 use isa::hcs08::Hcs08;
 use machine::standing::Standing;
 use std::alloc::Global;
-use std::process::Abort;
 use std::test::Fail;
 
 // A loading board over so many zeros.
@@ -24,15 +24,14 @@ fn loading(
 
 // A board just reset, after one record line and the end record.
 fn live(
-    rt: &impl Abort,
     heap: Global,
     size: usize,
     clock: u64,
     line: &[u8],
 ) -> Result<Board<OpenMemory, Hcs08, Live>, Fail> {
     let mut board = loading(heap, size, clock)?;
-    assert_eq!(rt; refusal_of(board.line(line)), 0);
-    assert_eq!(rt; refusal_of(board.line(b"S9030000FC")), 0);
+    check_eq(refusal_of(board.line(line)), 0)?;
+    check_eq(refusal_of(board.line(b"S9030000FC")), 0)?;
     match board.close() {
         Ok(ready) => Ok(ready.reset()),
         Err(_) => Err(Fail::new("not closed")),
@@ -88,7 +87,7 @@ fn closing(rt: HostRuntime) -> Result<(), Fail> {
 // A memory without a reset vector halts the board at 0.
 #[test]
 fn halted_from_reset(rt: HostRuntime) -> Result<(), Fail> {
-    let mut board = live(&rt, rt.alloc(), 16, 7, b"S105000E0102E9")?;
+    let mut board = live(rt.alloc(), 16, 7, b"S105000E0102E9")?;
     assert_eq!(rt; board.standing(), Standing::Halted);
     assert_eq!(rt; board.registers().pc, 0);
     assert_eq!(rt; refusal_of(board.step()), 30);
@@ -112,7 +111,6 @@ fn halted_from_reset(rt: HostRuntime) -> Result<(), Fail> {
 
 // Checks the one step that a board takes of an instruction at 0, and the refusal of the next.
 fn steps_once(
-    rt: &impl Abort,
     heap: Global,
     line: &[u8],
     clock: u64,
@@ -120,15 +118,14 @@ fn steps_once(
     standing: Standing,
     refusal: u8,
 ) -> Result<(), Fail> {
-    let mut board = live(rt, heap, 65_536, clock, line)?;
+    let mut board = live(heap, 65_536, clock, line)?;
     let Ok(taken) = board.step() else {
         return Err(Fail::new("step refused"));
     };
-    assert_eq!(rt; taken, cycles);
-    assert_eq!(rt; board.standing(), standing);
-    assert_eq!(rt; board.clock().wrapping_sub(clock), u64::from(cycles));
-    assert_eq!(rt; refusal_of(board.step()), refusal);
-    Ok(())
+    check_eq(taken, cycles)?;
+    check_eq(board.standing(), standing)?;
+    check_eq(board.clock().wrapping_sub(clock), u64::from(cycles))?;
+    check_eq(refusal_of(board.step()), refusal)
 }
 
 // NOP, WAIT, STOP and BGND at the limit, which a step may pass; then STOP and what is no instruction at 0. Halted is
@@ -136,42 +133,10 @@ fn steps_once(
 #[test]
 fn last_steps(rt: HostRuntime) -> Result<(), Fail> {
     let heap = rt.alloc();
-    steps_once(
-        &rt,
-        heap,
-        b"S10400009D5E",
-        CLOCK_LIMIT,
-        1,
-        Standing::Running,
-        31,
-    )?;
-    steps_once(
-        &rt,
-        heap,
-        b"S10400008F6C",
-        CLOCK_LIMIT,
-        2,
-        Standing::Waiting,
-        31,
-    )?;
-    steps_once(
-        &rt,
-        heap,
-        b"S10400008E6D",
-        CLOCK_LIMIT,
-        2,
-        Standing::Stopped,
-        31,
-    )?;
-    steps_once(
-        &rt,
-        heap,
-        b"S10400008279",
-        CLOCK_LIMIT,
-        5,
-        Standing::Halted,
-        30,
-    )?;
-    steps_once(&rt, heap, b"S10400008E6D", 0, 2, Standing::Stopped, 32)?;
-    steps_once(&rt, heap, b"S104000000FB", 0, 0, Standing::Halted, 30)
+    steps_once(heap, b"S10400009D5E", CLOCK_LIMIT, 1, Standing::Running, 31)?;
+    steps_once(heap, b"S10400008F6C", CLOCK_LIMIT, 2, Standing::Waiting, 31)?;
+    steps_once(heap, b"S10400008E6D", CLOCK_LIMIT, 2, Standing::Stopped, 31)?;
+    steps_once(heap, b"S10400008279", CLOCK_LIMIT, 5, Standing::Halted, 30)?;
+    steps_once(heap, b"S10400008E6D", 0, 2, Standing::Stopped, 32)?;
+    steps_once(heap, b"S104000000FB", 0, 0, Standing::Halted, 30)
 }

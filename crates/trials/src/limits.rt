@@ -1,8 +1,8 @@
 // Long inputs, and inputs of no sense.
+use crate::check::check_eq;
 use crate::printed::{add_lines, prints};
 use session::course::course;
 use std::alloc::{AllocError, Global};
-use std::process::Abort;
 use std::str::from_utf8;
 use std::test::Fail;
 
@@ -29,14 +29,12 @@ fn cut_at_the_limit(rt: HostRuntime) -> Result<(), Fail> {
     let letters = "     5     0       0 36 32768   0     0   255 104";
     let two_steps = "     6     2       3  0 32771   4     0   255 104";
     prints(
-        &rt,
         heap,
         long_input(heap, 32_713)?.as_slice(),
         &[letters, two_steps],
     )?;
     let no_order = "     6     0       0 36 32768   0     0   255 104";
     prints(
-        &rt,
         heap,
         long_input(heap, 32_714)?.as_slice(),
         &[letters, no_order],
@@ -72,7 +70,7 @@ fn noise(heap: Global, lines: &[&str], ordered: bool) -> Result<Vec<u8>, AllocEr
 }
 
 // Checks that each line but the first few prints a row.
-fn all_answered(rt: &impl Abort, heap: Global, input: &[u8], silent: usize) -> Result<(), Fail> {
+fn all_answered(heap: Global, input: &[u8], silent: usize) -> Result<(), Fail> {
     let printed = course(heap, input)?;
     let mut lines: usize = 0;
     for byte in input {
@@ -80,16 +78,15 @@ fn all_answered(rt: &impl Abort, heap: Global, input: &[u8], silent: usize) -> R
             lines = lines.wrapping_add(1);
         }
     }
-    assert_eq!(rt; printed.len() % 50, 0);
-    assert_eq!(rt; printed.len() / 50, lines.wrapping_sub(silent));
-    Ok(())
+    check_eq(printed.len() % 50, 0)?;
+    check_eq(printed.len() / 50, lines.wrapping_sub(silent))
 }
 
 #[test]
 fn survives_noise(rt: HostRuntime) -> Result<(), Fail> {
     let heap = rt.alloc();
-    all_answered(&rt, heap, noise(heap, &["H"], false)?.as_slice(), 1)?;
+    all_answered(heap, noise(heap, &["H"], false)?.as_slice(), 1)?;
     let image = ["K", "S10680008F20FDCD", "S105FFFE80007D", "S9030000FC"];
-    all_answered(&rt, heap, noise(heap, &image, true)?.as_slice(), 4)?;
-    all_answered(&rt, heap, noise(heap, &image, false)?.as_slice(), 4)
+    all_answered(heap, noise(heap, &image, true)?.as_slice(), 4)?;
+    all_answered(heap, noise(heap, &image, false)?.as_slice(), 4)
 }

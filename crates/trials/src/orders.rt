@@ -40,7 +40,6 @@ const ORDERS: &[&str] = &[
 #[test]
 fn refused_orders(rt: HostRuntime) -> Result<(), Fail> {
     answers(
-        &rt,
         rt.alloc(),
         "H",
         ORDERS,

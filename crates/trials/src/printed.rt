@@ -1,7 +1,7 @@
 // What a session prints for its lines.
+use crate::check::check_eq;
 use session::course::course;
 use std::alloc::{AllocError, Global};
-use std::process::Abort;
 use std::str::from_utf8;
 use std::test::Fail;
 
@@ -15,30 +15,18 @@ pub(crate) fn add_lines(text: &mut Vec<u8>, lines: &[&str]) -> Result<(), AllocE
 }
 
 // Checks that an input prints these rows and nothing else.
-pub(crate) fn prints(
-    rt: &impl Abort,
-    heap: Global,
-    input: &[u8],
-    rows: &[&str],
-) -> Result<(), Fail> {
+pub(crate) fn prints(heap: Global, input: &[u8], rows: &[&str]) -> Result<(), Fail> {
     let mut expected = Vec::new(heap);
     add_lines(&mut expected, rows)?;
     let printed = course(heap, input)?;
     let printed = from_utf8(printed.as_slice())?;
-    assert_eq!(rt; printed, from_utf8(expected.as_slice())?);
-    Ok(())
+    check_eq(printed, from_utf8(expected.as_slice())?)
 }
 
 // Checks that a core's session of these lines prints these rows and nothing else.
-pub(crate) fn answers(
-    rt: &impl Abort,
-    heap: Global,
-    core: &str,
-    lines: &[&str],
-    rows: &[&str],
-) -> Result<(), Fail> {
+pub(crate) fn answers(heap: Global, core: &str, lines: &[&str], rows: &[&str]) -> Result<(), Fail> {
     let mut input = Vec::new(heap);
     add_lines(&mut input, &[core])?;
     add_lines(&mut input, lines)?;
-    prints(rt, heap, input.as_slice(), rows)
+    prints(heap, input.as_slice(), rows)
 }

@@ -39,7 +39,7 @@ fn tour(rt: HostRuntime) -> Result<(), Fail> {
         "    14     3       6  0 32809  99  4661  4863 105",
         "    15     1       5 30 32810  99  4661  4863 105",
     ];
-    answers(&rt, heap, "H", TOUR, &on_hcs08)?;
+    answers(heap, "H", TOUR, &on_hcs08)?;
     let on_cpu08 = [
         "     6     2       4  0 32772   0     0   255 123",
         "     7     3       6  0 32777  71     0   255 120",
@@ -52,7 +52,7 @@ fn tour(rt: HostRuntime) -> Result<(), Fail> {
         "    14     3       6  0 32809  99  4661  4863 105",
         "    15     1       0 30 32809  99  4661  4863 105",
     ];
-    answers(&rt, heap, "K", TOUR, &on_cpu08)
+    answers(heap, "K", TOUR, &on_cpu08)
 }
 
 // Addresses go round: LDA stands at $FFFF and its operand at 0, and a branch at 0 leads back to 2 - 128. A byte that is
@@ -61,7 +61,6 @@ fn tour(rt: HostRuntime) -> Result<(), Fail> {
 fn edges(rt: HostRuntime) -> Result<(), Fail> {
     let heap = rt.alloc();
     answers(
-        &rt,
         heap,
         "H",
         &[
@@ -78,7 +77,6 @@ fn edges(rt: HostRuntime) -> Result<(), Fail> {
         ],
     )?;
     answers(
-        &rt,
         heap,
         "K",
         &[
@@ -99,14 +97,12 @@ fn edges(rt: HostRuntime) -> Result<(), Fail> {
         ],
     )?;
     answers(
-        &rt,
         heap,
         "H",
         &["S105800020FE5C", "S105FFFE80007D", "S9030000FC", "R 65535"],
         &["     5 65535  196605  0 32768   0     0   255 104"],
     )?;
     answers(
-        &rt,
         heap,
         "K",
         &["S9030000FC", "R 1"],

@@ -1,26 +1,25 @@
 // The lines, orders and rows of the console.
+use crate::check::check_eq;
 use console::lines::next_line;
 use console::order::{Order, parse_order};
 use console::row::{RegisterRow, push_row};
-use std::process::Abort;
 use std::test::Fail;
 
 // Checks how a text is cut after its first line.
-fn cuts(rt: &impl Abort, text: &[u8], line: &[u8], rest: &[u8]) -> Result<(), Fail> {
+fn cuts(text: &[u8], line: &[u8], rest: &[u8]) -> Result<(), Fail> {
     let (first, left) = next_line(text).ok_or("no line")?;
-    assert_eq!(rt; first, line);
-    assert_eq!(rt; left, rest);
-    Ok(())
+    check_eq(first, line)?;
+    check_eq(left, rest)
 }
 
 #[test]
 fn lines(rt: HostRuntime) -> Result<(), Fail> {
     assert!(rt; next_line(b"").is_none());
-    cuts(&rt, b"\n", b"", b"")?;
-    cuts(&rt, b"a", b"a", b"")?;
-    cuts(&rt, b"ab\n", b"ab", b"")?;
-    cuts(&rt, b"a\r\nb", b"a\r", b"b")?;
-    cuts(&rt, b"\n\n", b"", b"\n")
+    cuts(b"\n", b"", b"")?;
+    cuts(b"a", b"a", b"")?;
+    cuts(b"ab\n", b"ab", b"")?;
+    cuts(b"a\r\nb", b"a\r", b"b")?;
+    cuts(b"\n\n", b"", b"\n")
 }
 
 // The letter and the number of an order.

@@ -15,16 +15,15 @@ const COUNTDOWN: &[&str] = &[
 fn counts_down(rt: HostRuntime) -> Result<(), Fail> {
     let heap = rt.alloc();
     let on_hcs08 = ["     5    12      24 32 32774   0     0   255  98"];
-    answers(&rt, heap, "H", COUNTDOWN, &on_hcs08)?;
+    answers(heap, "H", COUNTDOWN, &on_hcs08)?;
     answers(
-        &rt,
         heap,
         "K",
         COUNTDOWN,
         &["     5    12      23 32 32774   0     0   255  98"],
     )?;
     let unended = b"H\nS1098000A6054A26FD8ED0\nS105FFFE80007D\nS9030000FC\nR 20";
-    prints(&rt, heap, unended, &on_hcs08)
+    prints(heap, unended, &on_hcs08)
 }
 
 // A first line that names no core is answered, and nothing after it.
@@ -33,13 +32,13 @@ fn first_lines(rt: HostRuntime) -> Result<(), Fail> {
     let heap = rt.alloc();
     let refused = ["     1     0       0 36     0   0     0     0   0"];
     for first in ["", "X", "h", "k", "K ", " H", "H\r", "HK"] {
-        answers(&rt, heap, first, COUNTDOWN, &refused)?;
+        answers(heap, first, COUNTDOWN, &refused)?;
     }
-    prints(&rt, heap, b"\n", &refused)?;
-    prints(&rt, heap, b"X", &refused)?;
-    prints(&rt, heap, b"", &[])?;
-    prints(&rt, heap, b"H", &[])?;
-    prints(&rt, heap, b"K\n", &[])
+    prints(heap, b"\n", &refused)?;
+    prints(heap, b"X", &refused)?;
+    prints(heap, b"", &[])?;
+    prints(heap, b"H", &[])?;
+    prints(heap, b"K\n", &[])
 }
 
 // An image, lines that would change it, and what is taken in silence: a header, and data of no byte and of the last one.
@@ -74,7 +73,6 @@ const LOADING: &[&str] = &[
 #[test]
 fn refused_records(rt: HostRuntime) -> Result<(), Fail> {
     answers(
-        &rt,
         rt.alloc(),
         "H",
         LOADING,

@@ -2,7 +2,7 @@
 use Rattle.std.proofs.Common.{◌≡◌, ℕ, Ok, Err, Result, sym, ap, ◌∙◌, subst}
 use Rattle.bus.specs.Cell.{Cells}
 use Rattle.access.specs.declared.fault.Fault.{Fault}
-use Rattle.access.specs.Access.{Access, ◌>>=◌, perform}
+use Rattle.access.specs.Access.{◌>>=◌, perform}
 use Rattle.calls.specs.Interrupt.{interrupted}
 use Rattle.operands.specs.Leaves.{leaves}
 use Rattle.operands.proofs.Leaving.{Left, left_ok, left_err, left_same}
@@ -13,7 +13,7 @@ use Rattle.state.specs.Lines.{served_line, vector_of}
 use Rattle.state.specs.Registers.{with_pc}
 use Rattle.machine_whole.specs.declared.decode.Decoded.{Decoded}
 use Rattle.machine_whole.specs.Act.{stands}
-use Rattle.machine_whole.specs.Execute.{Executed, executes, finished, moved_on, operated, carried_out}
+use Rattle.machine_whole.specs.Execute.{executes, finished, moved_on, operated, carried_out}
 use Rattle.machine_whole.specs.Request.{begun, entered}
 
 -- the answer, the registers, the standing and the cells

@@ -1,5 +1,5 @@
 -- What a sequence of accesses leaves of the registers.
-use Rattle.std.proofs.Common.{◌≡◌, ℕ, Ok, Err, Result, sym, refl, ap, ◌∙◌, arith}
+use Rattle.std.proofs.Common.{◌≡◌, ℕ, Ok, Err, Result, ap, ◌∙◌, arith}
 use Rattle.bus.specs.Cell.{Cells}
 use Rattle.access.specs.declared.fault.Fault.{Fault}
 use Rattle.access.specs.Access.{Access, ◌>>=◌, perform}

@@ -1,4 +1,4 @@
-use Rattle.std.proofs.Common.{◌≡◌, Ok, Result, sym, ap, ◌∙◌}
+use Rattle.std.proofs.Common.{Ok, Result, sym, ap, ◌∙◌}
 use Rattle.bus.specs.Cell.{Cells}
 use Rattle.access.specs.declared.fault.Fault.{Fault}
 use Rattle.access.specs.Access.{done}

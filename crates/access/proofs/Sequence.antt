@@ -25,14 +25,13 @@ module _ {X Y : Type 0} (f : X → Access Y) where
   sequenced (read a k) m = accessed (m a) m _ _ (λ b. sequenced (k b) m)
   sequenced (store a b t) m = accessed (m a) m _ _ (λ _. sequenced t (stored m a b))
 
-  -- after a tree that answered
-  pub after_ok : (t : Access X) (m m' : Cells) (r : Result X Fault) (x : X) →
-      (r, m') ≡ perform t m → r ≡ Ok x → perform (t >>= f) m ≡ perform (f x) m'
-  after_ok t m m' r x e is =
-      sequenced t m ∙ ap (λ (p : Result X Fault × Cells). and_then p f) (sym e) ∙ ap (λ (q : Result X Fault). and_then (q, m') f) is
+  module _ {Z : Type 0} (g : Result Y Fault × Cells → Z) (t : Access X) (m : Cells) {m' : Cells} {r : Result X Fault} where
+    -- after a tree that answered, what follows tells what comes of both
+    pub after_ok : {x : X} {z : Z} → (r, m') ≡ perform t m → r ≡ Ok x → z ≡ g (perform (f x) m') → z ≡ g (perform (t >>= f) m)
+    after_ok e is rest =
+        rest ∙ ap g (sym (sequenced t m ∙ ap (λ (p : Result X Fault × Cells). and_then p f) (sym e) ∙ ap (λ (q : Result X Fault). and_then (q, m') f) is))
 
-  -- after a tree that a fault ended
-  pub after_err : (t : Access X) (m m' : Cells) (r : Result X Fault) (fault : Fault) →
-      (r, m') ≡ perform t m → r ≡ Err fault → perform (t >>= f) m ≡ (Err fault, m')
-  after_err t m m' r fault e is =
-      sequenced t m ∙ ap (λ (p : Result X Fault × Cells). and_then p f) (sym e) ∙ ap (λ (q : Result X Fault). and_then (q, m') f) is
+    -- a fault that ended a tree ends both
+    pub after_err : {fault : Fault} {z : Z} → (r, m') ≡ perform t m → r ≡ Err fault → z ≡ g (Err fault, m') → z ≡ g (perform (t >>= f) m)
+    after_err e is rest =
+        rest ∙ ap g (sym (sequenced t m ∙ ap (λ (p : Result X Fault × Cells). and_then p f) (sym e) ∙ ap (λ (q : Result X Fault). and_then (q, m') f) is))

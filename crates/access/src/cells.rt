@@ -10,10 +10,7 @@ use bus::traits::Bus;
 pub fn read_cell<B: Bus>(bus: &mut B, address: u16) -> Result<u8, Fault>
     ensures { (result, B.cells bus.new) ≡ perform (read address done) (B.cells bus.old) }
 {
-    match bus.read(address) {
-        Ok(byte) => Ok(byte),
-        Err(_) => Err(Fault::MissingCell),
-    }
+    bus.read(address).map_err(|_| Fault::MissingCell)
 }
 
 // Stores a byte; a guarded cell drops it.

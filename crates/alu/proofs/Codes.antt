@@ -1,22 +1,23 @@
 -- From flags to the condition code byte and back.
-use Rattle.std.proofs.Common.{◌≡◌, ℕ, ◌/◌, ◌%◌, ◌<◌, ◌≤◌, Bool, true, false, eqb, ap, arith, lit≤}
-use Rattle.std.proofs.lemmas.Bool.Decides.{nat_tests}
+use Rattle.std.proofs.Common.{◌≡◌, ℕ, ◌/◌, ◌%◌, ◌≤◌, Bool, true, false, eqb, refl, ap, arith, lit≤}
+use mir.Val.{bool_byte}
 use Rattle.alu.specs.declared.flags.Flags.{Flags}
-use Rattle.alu.specs.Flags.{bit, ccr_byte, ccr_flags, fixed_set}
+use Rattle.alu.specs.Flags.{bit, ccr_byte, ccr_flags}
 
 -- a flag is 0 or 1
 pub bit_small : (b : Bool) → bit b ≤ 1
 bit_small true = lit≤ tt
 bit_small false = lit≤ tt
 
+-- the byte of a flag is its number
+pub flag_byte : (b : Bool) → bool_byte b ≡ bit b
+flag_byte true = refl
+flag_byte false = refl
+
 -- the number of a flag tells the flag
 bit_tells : (b : Bool) (n : ℕ) → n ≡ bit b → eqb n 1 ≡ b
 bit_tells true n h = ap (λ m. eqb m 1) h
 bit_tells false n h = ap (λ m. eqb m 1) h
-
--- the number of the flag that a last bit gives
-bit_last : (n : ℕ) → bit (eqb (n % 2) 1) ≡ n % 2
-bit_last n = grind (arith, nat_tests)
 
 -- the byte of some flags holds those flags
 pub flags_back : (f : Flags) → ccr_flags (ccr_byte f) ≡ f
@@ -35,9 +36,3 @@ flags_back f =
       z = bit_tells f.z (ccr_byte f / 2 % 2) (omega arith) k;
       c = bit_tells f.c (ccr_byte f / 1 % 2) (omega arith) k;
     }
-
--- the flags of a byte make that byte, but for the bits that are always set
-pub byte_back : (b : ℕ) → b < 256 → ccr_byte (ccr_flags b) ≡ fixed_set b
-byte_back b small =
-    omega
-    (arith, bit_last (b / 128), bit_last (b / 16), bit_last (b / 8), bit_last (b / 4), bit_last (b / 2), bit_last (b / 1))

@@ -1,3 +1,4 @@
 pub mod Codes
+pub mod Differences
 pub mod Digits
 pub mod SingleBits

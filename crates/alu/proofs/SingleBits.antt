@@ -1,77 +1,63 @@
--- A number by its digits: what setting and clearing a bit come to, in every width.
-use Rattle.std.proofs.Common.{◌≡◌, ℕ, zero, suc, ◌-◌, ◌/◌, ◌%◌, ◌^◌, ◌<◌, true, false, cond, eqb, sym, refl, ap, ◌∙◌, pow-suc, one-add, arith, pow_pos, shr-shr}
-use native.Mathlib.Nat.{div_self, zero-div}
-use lib.Bits.{bit_and, bit_or, and_shr, or_shr, and_mod, or_mod, and_zero_r, or_zero_r, and_mask}
-use Rattle.std.proofs.lemmas.Nat.{pow_below}
+-- A bit set or cleared among 64 bits, of which the lowest w are kept.
+use Rattle.std.proofs.Common.{◌≡◌, ℕ, zero, suc, ◌+◌, ◌-◌, ◌*◌, ◌/◌, ◌%◌, ◌^◌, ◌<◌, ◌≤◌, true, false, cond, eqb, sym, refl, ap, ◌∙◌, bit_and, bit_or, arith}
+use Rattle.std.specs.Int.{w64, bit_at, bit_not}
+use Rattle.std.proofs.Math.Nat.{mod-eq_of_lt, mul-add-mod_self_right, suc-mul}
+use Rattle.std.proofs.lemmas.Nat.{and_mod, or_lt, one_shl, pow-add, pow_below, pow_pos}
+use Rattle.std.proofs.lemmas.Nat.Bits.{bit_at_cat_low, bit_at_set_same, bit_at_set_other, bit_at_clear_same, bit_at_clear_other}
 use Rattle.std.proofs.lemmas.Bool.Decides.{nat_tests}
-use Rattle.alu.specs.Bits.{bit_of}
+use Rattle.alu.specs.Bits.{bit_of, with_bit, without_bit}
 
--- digit k of n
-abbrev pub digit : ℕ → ℕ → ℕ
-digit n k = n / 2 ^ k % 2
+-- a bit among 64, as the code shifts it
+abbrev pub shifted_one : ℕ → ℕ
+shifted_one k = 1 * 2 ^ k % 18446744073709551616
 
-pub digit_suc : (n k : ℕ) → digit n (suc k) ≡ digit (n / 2) k
-digit_suc n k = ap (λ (x : ℕ). n / 2 ^ x % 2) (sym (one-add k)) ∙ ap (λ (x : ℕ). x % 2) (sym (shr-shr n 1 k))
+cut_ones : (q m bit : ℕ) → 0 < q → bit < m → (q * m - 1 - bit) % m ≡ m - 1 - bit
+cut_ones zero m bit some small = omega arith
+cut_ones (suc q) m bit some small =
+    let parts : suc q * m - 1 - bit ≡ q * m + (m - 1 - bit) = omega (arith, suc-mul q m) in
+    let below : m - 1 - bit < m = omega arith in
+    ap (λ (x : ℕ). x % m) parts ∙ mul-add-mod_self_right q m (m - 1 - bit) ∙ mod-eq_of_lt below
 
-digit_or : (a b k : ℕ) → digit (bit_or a b) k ≡ bit_or (digit a k) (digit b k)
-digit_or a b k = ap (λ (x : ℕ). x % 2) (or_shr a b k) ∙ or_mod (a / 2 ^ k) (b / 2 ^ k) 1
+module _ (w : ℕ) where
+  -- the lowest w bits are those of the whole
+  low_bit : (m i : ℕ) → i < w → bit_at (m % 2 ^ w) i ≡ bit_at m i
+  low_bit m i h = sym (bit_at_cat_low (m / 2 ^ w) w (m % 2 ^ w) i h) ∙ ap (λ (x : ℕ). bit_at x i) (omega arith)
 
-digit_and : (a b k : ℕ) → digit (bit_and a b) k ≡ bit_and (digit a k) (digit b k)
-digit_and a b k = ap (λ (x : ℕ). x % 2) (and_shr a b k) ∙ and_mod (a / 2 ^ k) (b / 2 ^ k) 1
+  -- 64 ones less one, cut to w bits
+  cut_mask : (bit : ℕ) → w ≤ 32 → bit < 2 ^ w → (2 ^ 64 - 1 - bit) % 2 ^ w ≡ 2 ^ w - 1 - bit
+  cut_mask bit narrow small =
+      let total : 64 ≡ 64 - w + w = omega arith in
+      let whole : 2 ^ 64 ≡ 2 ^ (64 - w) * 2 ^ w = ap (λ (x : ℕ). 2 ^ x) total ∙ pow-add 2 (64 - w) w in
+      ap (λ (x : ℕ). (x - 1 - bit) % 2 ^ w) whole ∙ cut_ones (2 ^ (64 - w)) (2 ^ w) bit (pow_pos (64 - w)) small
 
--- a power of two has the digit of its exponent, and no other
-own : (k : ℕ) → digit (2 ^ k) k ≡ 1
-own k = ap (λ (x : ℕ). x % 2) (div_self (pow_pos k))
+  module _ (n k : ℕ) (place : k < w) (narrow : w ≤ 32) (fits : n < 2 ^ w) where
+    within : k < 64
+    within = omega arith
 
-other : (j k : ℕ) → (k ≡ j → ⊥) → digit (2 ^ j) k ≡ 0
-other zero zero ne = absurd (ne refl)
-other zero (suc k) ne = digit_suc 1 k ∙ ap (λ (x : ℕ). x % 2) (zero-div (2 ^ k))
-other (suc j) zero ne = omega (arith, pow-suc 2 j)
-other (suc j) (suc k) ne =
-    let half : 2 ^ suc j / 2 ≡ 2 ^ j = omega (arith, pow-suc 2 j) in
-    digit_suc (2 ^ suc j) k ∙ ap (λ (x : ℕ). digit x k) half ∙ other j k (λ e. ne (ap suc e))
+    one : shifted_one k ≡ 2 ^ k
+    one = one_shl k 64 within
 
--- a number's complement in w digits has the digits that the number lacks
-complement : (w a k : ℕ) → a < 2 ^ w → k < w → digit (2 ^ w - 1 - a) k ≡ 1 - digit a k
-complement zero a k p h = omega arith
-complement (suc w) a zero p h = omega (arith, pow-suc 2 w)
-complement (suc w) a (suc k) p h =
-    let half : (2 ^ suc w - 1 - a) / 2 ≡ 2 ^ w - 1 - a / 2 = omega (arith, pow-suc 2 w) in
-    digit_suc (2 ^ suc w - 1 - a) k ∙ ap (λ (x : ℕ). digit x k) half
-    ∙ complement w (a / 2) k (omega (arith, pow-suc 2 w)) (omega arith)
-    ∙ ap (λ (x : ℕ). 1 - x) (sym (digit_suc a k))
+    pub set_value : bit_or n (shifted_one k) % 2 ^ w ≡ with_bit w n k
+    set_value =
+        let set : bit_or n (shifted_one k) % 2 ^ w ≡ bit_or n (2 ^ k) = rw one (mod-eq_of_lt (or_lt w n (2 ^ k) fits (pow_below k w place))) in
+        grind (arith, nat_tests)
 
-or_one : (d : ℕ) → d < 2 → bit_or d 1 ≡ 1
-or_one zero h = refl
-or_one (suc zero) h = refl
-or_one (suc (suc d)) h = omega arith
+    pub clear_value : bit_and n (bit_not w64 (shifted_one k)) % 2 ^ w ≡ without_bit w n k
+    clear_value =
+        let cleared : bit_and n (bit_not w64 (shifted_one k)) % 2 ^ w ≡ bit_and n (2 ^ w - 1 - 2 ^ k) =
+        rw one (and_mod n (2 ^ 64 - 1 - 2 ^ k) w ∙ rw (mod-eq_of_lt fits, cut_mask (2 ^ k) narrow (pow_below k w place)) refl) in
+        grind (arith, nat_tests)
 
-module _ (w n place k : ℕ) where
-  -- setting a bit sets its digit, and keeps the others
-  sets : (d : ℕ) → digit (2 ^ place) k ≡ d → digit (bit_or n (2 ^ place)) k ≡ bit_or (digit n k) d
-  sets d e = digit_or n (2 ^ place) k ∙ ap (bit_or (digit n k)) e
+    pub set_only : (i : ℕ) → bit_of w (bit_or n (shifted_one k) % 2 ^ w) i ≡ cond (eqb i k) true (bit_of w n i)
+    set_only i =
+        let low = low_bit (bit_or n (shifted_one k)) i in
+        let same = bit_at_set_same w64 n k within in
+        let other = bit_at_set_other w64 n k within i in
+        grind (arith, nat_tests)
 
-  sets_own : k ≡ place → digit (bit_or n (2 ^ place)) k ≡ 1
-  sets_own e = sets 1 (rw e (own place)) ∙ or_one (digit n k) (omega arith)
-
-  sets_no_other : (k ≡ place → ⊥) → digit (bit_or n (2 ^ place)) k ≡ digit n k
-  sets_no_other ne = sets 0 (other place k ne) ∙ or_zero_r (digit n k)
-
-  pub set : place < w → bit_of w (bit_or n (2 ^ place)) k ≡ cond (eqb k place) true (bit_of w n k)
-  set p = let same = sets_own in let kept = sets_no_other in grind (arith, nat_tests)
-
-  -- clearing a bit clears its digit, and keeps the others
-  module _ (p : place < w) (h : k < w) where
-    clears : (d : ℕ) → digit (2 ^ place) k ≡ d → digit (bit_and n (2 ^ w - 1 - 2 ^ place)) k ≡ bit_and (digit n k) (1 - d)
-    clears d e =
-        digit_and n (2 ^ w - 1 - 2 ^ place) k
-        ∙ ap (bit_and (digit n k)) (complement w (2 ^ place) k (pow_below place w p) h ∙ ap (λ (x : ℕ). 1 - x) e)
-
-    clears_own : k ≡ place → digit (bit_and n (2 ^ w - 1 - 2 ^ place)) k ≡ 0
-    clears_own e = clears 1 (rw e (own place)) ∙ and_zero_r (digit n k)
-
-    clears_no_other : (k ≡ place → ⊥) → digit (bit_and n (2 ^ w - 1 - 2 ^ place)) k ≡ digit n k
-    clears_no_other ne = clears 0 (other place k ne) ∙ and_mask (digit n k) 1 ∙ omega arith
-
-  pub cleared : place < w → bit_of w (bit_and n (2 ^ w - 1 - 2 ^ place)) k ≡ cond (eqb k place) false (bit_of w n k)
-  cleared p = let same = clears_own p in let kept = clears_no_other p in grind (arith, nat_tests)
+    pub clear_only : (i : ℕ) → bit_of w (bit_and n (bit_not w64 (shifted_one k)) % 2 ^ w) i ≡ cond (eqb i k) false (bit_of w n i)
+    clear_only i =
+        let low = low_bit (bit_and n (bit_not w64 (shifted_one k))) i in
+        let same = bit_at_clear_same w64 n k within in
+        let other = bit_at_clear_other w64 n k within i in
+        grind (arith, nat_tests)

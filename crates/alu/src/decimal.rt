@@ -14,7 +14,7 @@ pub fn decimal_adjust(a: u8, flags: Flags) -> (u8, Flags)
     let result = a.wrapping_add(6 * low as u8 + 0x60 * high as u8);
     let flags = Flags {
         c: high,
-        ..flags.with_byte(result)
+        ..flags.with_nz(result)
     };
     (result, flags)
 }

@@ -1,6 +1,9 @@
 // The six flags of the condition code register.
-ghost use Rattle.std.specs.Prelude.{◌≡◌, ◌+◌, ◌<◌};
-ghost use Rattle.alu.specs.Flags.{bit_at, ccr_byte, ccr_flags, fixed_set, with_nz};
+ghost use Rattle.std.specs.Prelude.{◌≡◌, ◌+◌};
+ghost use Rattle.alu.specs.Flags.{ccr_byte, ccr_flags, fixed_set, with_nz};
+
+use crate::bits::is_bit_set;
+use crate::unsigned::Unsigned;
 
 // What an instruction tells of its result.
 #[derive(Clone, Copy)]
@@ -20,14 +23,6 @@ pub struct Flags {
 }
 
 impl Flags {
-    // The condition code byte. Bits 6 and 5 are always set.
-    pub fn to_byte(self) -> u8
-        ensures value { result ≡ ccr_byte self }
-        ensures back { ccr_flags result ≡ self }
-    {
-        64 + 32 + self.placed()
-    }
-
     // The flags in their bits of the condition code byte, and bits 6 and 5 clear.
     fn placed(self) -> u8
         ensures { 64 + 32 + result ≡ ccr_byte self }
@@ -40,48 +35,39 @@ impl Flags {
             + self.c as u8
     }
 
-    // The flags of a condition code byte. Bits 6 and 5 are ignored.
-    pub fn from_byte(byte: u8) -> Flags
-        ensures value { result ≡ ccr_flags byte }
-        ensures back { ccr_byte result ≡ fixed_set byte }
+    // These flags with N and Z of a number.
+    pub(crate) fn with_nz<N: Unsigned>(self, value: N) -> Flags
+        ensures { result ≡ with_nz N.BITS (N.number value) self }
     {
         Flags {
-            v: is_set(byte, 7),
-            h: is_set(byte, 4),
-            i: is_set(byte, 3),
-            n: is_set(byte, 2),
-            z: is_set(byte, 1),
-            c: is_set(byte, 0),
-        }
-    }
-
-    // These flags with N and Z of a byte.
-    pub(crate) fn with_byte(self, byte: u8) -> Flags
-        ensures { result ≡ with_nz 8 byte self }
-    {
-        Flags {
-            n: byte >= 128,
-            z: byte == 0,
-            ..self
-        }
-    }
-
-    // These flags with N and Z of a word.
-    pub(crate) fn with_word(self, word: u16) -> Flags
-        ensures { result ≡ with_nz 16 word self }
-    {
-        Flags {
-            n: word >= 32768,
-            z: word == 0,
+            n: is_bit_set(value, N::BITS - 1),
+            z: N::widen(value) == 0,
             ..self
         }
     }
 }
 
-// Whether a bit of a byte is set. A byte has no bit past its eighth.
-fn is_set(byte: u8, place: u32) -> bool
-    requires { place < 8 }
-    ensures { result ≡ bit_at place byte }
-{
-    (byte >> place) % 2 == 1
+impl From<Flags> for u8 {
+    ghost from_gives = { λ flags byte. (byte ≡ ccr_byte flags) × (ccr_flags byte ≡ flags) };
+
+    // The condition code byte. Bits 6 and 5 are always set.
+    fn from(flags: Flags) -> u8 {
+        64 + 32 + flags.placed()
+    }
+}
+
+impl From<u8> for Flags {
+    ghost from_gives = { λ byte flags. (flags ≡ ccr_flags byte) × (ccr_byte flags ≡ fixed_set byte) };
+
+    // The flags of a condition code byte. Bits 6 and 5 are ignored.
+    fn from(byte: u8) -> Flags {
+        Flags {
+            v: is_bit_set(byte, 7),
+            h: is_bit_set(byte, 4),
+            i: is_bit_set(byte, 3),
+            n: is_bit_set(byte, 2),
+            z: is_bit_set(byte, 1),
+            c: is_bit_set(byte, 0),
+        }
+    }
 }

@@ -11,4 +11,5 @@ pub mod products;
 pub mod shifts;
 pub mod sums;
 pub mod unary;
+pub mod unsigned;
 pub mod words;

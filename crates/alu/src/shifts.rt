@@ -10,7 +10,7 @@ use crate::flags::Flags;
 fn shifted(byte: u8, out: bool, flags: Flags) -> (u8, Flags)
     ensures { result ≡ shift_of byte out flags }
 {
-    let flags = flags.with_byte(byte);
+    let flags = flags.with_nz(byte);
     let flags = Flags {
         v: flags.n != out,
         c: out,
@@ -18,6 +18,8 @@ fn shifted(byte: u8, out: bool, flags: Flags) -> (u8, Flags)
     };
     (byte, flags)
 }
+
+// Each shift is one line over `shifted`: as data for one function, the result and the bit out would stand there as well.
 
 // To the left, with a 0 from the right.
 pub fn shift_left(byte: u8, flags: Flags) -> (u8, Flags)

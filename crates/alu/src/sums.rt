@@ -1,9 +1,10 @@
 // Sums and differences.
-ghost use Rattle.std.specs.Prelude.{◌≡◌, ◌+◌, ◌*◌, false};
+ghost use Rattle.std.specs.Prelude.{◌≡◌, ◌+◌, ◌*◌, ◌^◌, ◌<◌, false};
 ghost use Rattle.alu.specs.Flags.{bit};
-ghost use Rattle.alu.specs.Sums.{sum_of, difference_of, Compared};
+ghost use Rattle.alu.specs.Sums.{sum_of, difference, difference_of, difference_overflows, Compared};
 
 use crate::flags::Flags;
+use crate::unsigned::Unsigned;
 
 // Adds two bytes and a carry.
 pub fn add(a: u8, b: u8, carry: bool, flags: Flags) -> (u8, Flags)
@@ -17,40 +18,53 @@ pub fn add(a: u8, b: u8, carry: bool, flags: Flags) -> (u8, Flags)
         v: (a % 128 + b % 128 + carry as u8 >= 128) != (sum >= 256),
         h: a % 16 + b % 16 + carry as u8 >= 16,
         c: sum >= 256,
-        ..flags.with_byte(result)
+        ..flags.with_nz(result)
     };
     (result, flags)
 }
 
-// Subtracts a byte and a borrow from a byte.
-pub fn subtract(a: u8, b: u8, borrow: bool, flags: Flags) -> (u8, Flags)
-    ensures value { result ≡ difference_of 8 a b borrow flags }
-    ensures whole { 256 * bit result.1.c + a ≡ result.0 + b + bit borrow }
-    ensures compared { borrow ≡ false → Compared 8 a b result.1 }
+// The difference of two widened numbers, less a borrow.
+#[tactic(auto, using(crate::proofs::Differences::one_shifted))]
+fn difference<N: Unsigned>(a: u64, b: u64, borrow: bool) -> N
+    requires first { a < 2 ^ N.BITS }
+    requires second { b < 2 ^ N.BITS }
+    ensures { N.number result ≡ difference N.BITS a b borrow }
 {
-    let subtrahend = b as u16 + borrow as u16;
-    let result = ((256 + a as u16 - subtrahend) % 256) as u8;
+    N::truncate((1 << N::BITS) + a - (b + borrow as u64))
+}
+
+// Whether the signed difference does not fit: the borrows into the top bit and out of it differ.
+#[tactic(auto, using(crate::proofs::Differences::borrows_differ))]
+fn overflows<N: Unsigned>(a: u64, b: u64, borrow: bool) -> bool
+    requires first { a < 2 ^ N.BITS }
+    requires second { b < 2 ^ N.BITS }
+    ensures { result ≡ difference_overflows N.BITS a b borrow }
+{
+    let half: u64 = 1 << (N::BITS - 1);
+    (a % half < b % half + borrow as u64) != (a < b + borrow as u64)
+}
+
+// The difference of two widened numbers, less a borrow, and its flags.
+#[tactic(auto, unfolding(crate::specs::Sums::difference_overflows))]
+fn subtract_wide<N: Unsigned>(a: u64, b: u64, borrow: bool, flags: Flags) -> (N, Flags)
+    requires first { a < 2 ^ N.BITS }
+    requires second { b < 2 ^ N.BITS }
+    ensures { (N.number result.0, result.1) ≡ difference_of N.BITS a b borrow flags }
+{
+    let result = difference(a, b, borrow);
     let flags = Flags {
-        // the borrows into bit 7 and out of it differ
-        v: (a % 128 < b % 128 + borrow as u8) != ((a as u16) < subtrahend),
-        c: (a as u16) < subtrahend,
-        ..flags.with_byte(result)
+        v: overflows::<N>(a, b, borrow),
+        c: a < b + borrow as u64,
+        ..flags.with_nz(result)
     };
     (result, flags)
 }
 
-// Subtracts a word from a word.
-pub fn subtract_words(a: u16, b: u16, flags: Flags) -> (u16, Flags)
-    ensures value { result ≡ difference_of 16 a b false flags }
-    ensures whole { 65536 * bit result.1.c + a ≡ result.0 + b }
-    ensures compared { Compared 16 a b result.1 }
+// Subtracts a number and a borrow from a number.
+pub fn subtract<N: Unsigned>(a: N, b: N, borrow: bool, flags: Flags) -> (N, Flags)
+    ensures value { (N.number result.0, result.1) ≡ difference_of N.BITS (N.number a) (N.number b) borrow flags }
+    ensures whole { 2 ^ N.BITS * bit result.1.c + N.number a ≡ N.number result.0 + N.number b + bit borrow }
+    ensures compared { borrow ≡ false → Compared N.BITS (N.number a) (N.number b) result.1 }
 {
-    let result = a.wrapping_sub(b);
-    let flags = Flags {
-        // the borrows into bit 15 and out of it differ
-        v: (a % 32768 < b % 32768) != (a < b),
-        c: a < b,
-        ..flags.with_word(result)
-    };
-    (result, flags)
+    subtract_wide(N::widen(a), N::widen(b), borrow, flags)
 }

@@ -4,7 +4,7 @@ ghost use Rattle.alu.specs.Sums.{signed_value, fits_in};
 ghost use Rattle.alu.specs.Unary.{increment_of, decrement_of, negate_of, complement_of, clear_of, swapped};
 
 use crate::flags::Flags;
-use crate::logic::test_byte;
+use crate::logic::test;
 
 // One more. C keeps.
 pub fn increment(byte: u8, flags: Flags) -> (u8, Flags)
@@ -14,7 +14,7 @@ pub fn increment(byte: u8, flags: Flags) -> (u8, Flags)
     let result = byte.wrapping_add(1);
     let flags = Flags {
         v: byte == 0x7f,
-        ..flags.with_byte(result)
+        ..flags.with_nz(result)
     };
     (result, flags)
 }
@@ -27,7 +27,7 @@ pub fn decrement(byte: u8, flags: Flags) -> (u8, Flags)
     let result = byte.wrapping_sub(1);
     let flags = Flags {
         v: byte == 0x80,
-        ..flags.with_byte(result)
+        ..flags.with_nz(result)
     };
     (result, flags)
 }
@@ -41,23 +41,25 @@ pub fn negate(byte: u8, flags: Flags) -> (u8, Flags)
     let flags = Flags {
         v: result == 0x80,
         c: result != 0,
-        ..flags.with_byte(result)
+        ..flags.with_nz(result)
     };
     (result, flags)
 }
+
+// `complement` and `clear` are one line each over `test`, which is what they share.
 
 // Turns every bit.
 pub fn complement(byte: u8, flags: Flags) -> (u8, Flags)
     ensures { result ≡ complement_of byte flags }
 {
-    test_byte(255 - byte, Flags { c: true, ..flags })
+    test(255 - byte, Flags { c: true, ..flags })
 }
 
 // Zero in the place of the byte. C keeps.
 pub fn clear(flags: Flags) -> (u8, Flags)
     ensures { result ≡ clear_of flags }
 {
-    test_byte(0, flags)
+    test(0, flags)
 }
 
 // The two halves of the byte change places.

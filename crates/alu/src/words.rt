@@ -8,19 +8,19 @@ pub fn word(high: u8, low: u8) -> u16
     ensures upper { high_byte result ≡ high }
     ensures lower { low_byte result ≡ low }
 {
-    256 * high as u16 + low as u16
+    u16::from_be_bytes([high, low])
 }
 
 // The high byte of a word.
 pub fn high_byte(word: u16) -> u8
     ensures { result ≡ high_byte word }
 {
-    (word / 256) as u8
+    word.to_be_bytes()[0]
 }
 
 // The low byte of a word.
 pub fn low_byte(word: u16) -> u8
     ensures { result ≡ low_byte word }
 {
-    (word % 256) as u8
+    word.to_be_bytes()[1]
 }

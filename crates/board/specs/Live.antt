@@ -2,15 +2,14 @@
 use Rattle.std.specs.Prelude.{ℕ, ◌+◌, Bool, cond, not, ◌&&◌, Some, None, Ok, Err, Option, Result, ◌==◌, nat_lt}
 use Rattle.bus.specs.Cell.{Cells}
 use Rattle.isa.specs.Law.{Table}
-use Rattle.machine.specs.declared.access.Fault.{Fault}
-use Rattle.machine.specs.declared.execute.Executed.{Executed}
-use Rattle.machine.specs.declared.standing.Standing.TheVariants.{Running, Waiting, Stopped, Halted}
-use Rattle.machine.specs.Access.{Access, done, fail, perform}
-use Rattle.machine.specs.Execute.{instruction}
+use Rattle.access.specs.declared.fault.Fault.{Fault}
+use Rattle.state.specs.declared.standing.Standing.TheVariants.{Running, Waiting, Stopped, Halted}
+use Rattle.access.specs.Access.{Access, done, fail, perform}
+use Rattle.machine.specs.Execute.{Executed, executes, instruction}
 use Rattle.machine.specs.Request.{entered}
 use Rattle.board.specs.declared.refusal.Refusal.{Refusal}
 use Rattle.board.specs.declared.refusal.Refusal.TheVariants.{BoardHalted, ClockPastLimit, StoppedWithoutLine}
-use Rattle.board.specs.declared.stages.Live.{Live}
+use Rattle.state.specs.declared.live.Live.{Live}
 use Rattle.board.specs.Situation.{Situation, clock_limit}
 
 -- whether some line is raised
@@ -33,32 +32,36 @@ step_refusal clock live =
 
 -- one cycle passes
 abbrev pub waited : Live → Access Executed
-waited live = done (record { registers = live.registers; standing = Waiting; cycles = 1 })
+waited live = done (record { registers = live.registers; standing = live.standing; cycles = 1 })
 
 -- what a step does: a raised line is entered if the board is waiting, stopped or has I clear; waiting, a cycle passes; else the instruction is executed
 abbrev pub action : Table → ℕ → Live → Access Executed
 action table figure live =
     elim live.standing [
-      | Running ↦ cond (pending live && not live.registers.flags.i) (entered figure live.registers live.lines) (instruction table live.registers live.lines)
-      | Waiting ↦ cond (pending live) (entered figure live.registers live.lines) (waited live)
-      | Stopped ↦ entered figure live.registers live.lines
+      | Running ↦ cond (pending live && not live.registers.flags.i) (entered figure live) (instruction table live)
+      | Waiting ↦ cond (pending live) (entered figure live) (waited live)
+      | Stopped ↦ entered figure live
       | Halted ↦ fail
     ]
 
--- what a step leaves: its cycles on the clock; at a fault the board halts with its registers as they were, at 0 cycles
-abbrev pub settled : Situation Live → Result Executed Fault × Cells → Result ℕ Refusal × Situation Live
-settled s (Ok e, m) = (
-  Ok e.cycles,
-  record { clock = s.clock + e.cycles; stage = record { registers = e.registers; standing = e.standing; lines = s.stage.lines }; memory = m },
-)
-settled s (Err fault, m) =
-    (Ok 0, record { clock = s.clock; stage = record { registers = s.stage.registers; standing = Halted; lines = s.stage.lines }; memory = m })
+-- a step's cycles on the clock; at a fault the board halts, at 0 cycles
+abbrev pub counted : {C : Type 0} → Situation C Live → Result ℕ Fault → Result ℕ Refusal × Situation C Live
+counted s (Ok cycles) = (Ok cycles, record s { clock = s.clock + cycles })
+counted s (Err fault) = (Ok 0, record s { stage = record s.stage { standing = Halted } })
+
+-- what the machine then holds and the cells, with the cycles on the clock
+abbrev pub acted : {C : Type 0} → Situation C Live → Result ℕ Fault × Live × Cells → Result ℕ Refusal × Situation C Live
+acted s (cycles, live, m) = counted (record s { stage = live; memory = m }) cycles
+
+-- what a step leaves
+abbrev pub settled : {C : Type 0} → Situation C Live → Result Executed Fault × Cells → Result ℕ Refusal × Situation C Live
+settled s p = acted s (executes s.stage p)
 
 -- a step, unless it is refused
-abbrev pub unless_refused : Option Refusal → Table → ℕ → Situation Live → Result ℕ Refusal × Situation Live
+abbrev pub unless_refused : {C : Type 0} → Option Refusal → (C → Table) → (C → ℕ) → Situation C Live → Result ℕ Refusal × Situation C Live
 unless_refused (Some refusal) table figure s = (Err refusal, s)
-unless_refused None table figure s = settled s (perform (action table figure s.stage) s.memory)
+unless_refused None table figure s = settled s (perform (action (table s.core) (figure s.core) s.stage) s.memory)
 
--- a step of a live board on a core's table and entry figure
-abbrev pub step_taken : Table → ℕ → Situation Live → Result ℕ Refusal × Situation Live
+-- a step of a live board, by what a core's table and entry figure are
+abbrev pub step_taken : {C : Type 0} → (C → Table) → (C → ℕ) → Situation C Live → Result ℕ Refusal × Situation C Live
 step_taken table figure s = unless_refused (step_refusal s.clock s.stage) table figure s

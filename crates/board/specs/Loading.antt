@@ -15,12 +15,12 @@ abbrev pub line_answer : Result Unit LineRefusal → Result Unit Refusal
 line_answer (Ok done) = Ok tt
 line_answer (Err refusal) = Err (Line refusal)
 
--- a situation once a line was taken or refused; the clock keeps
-abbrev pub after_line : Situation Loading → Taken → Result Unit Refusal × Situation Loading
-after_line s t = (line_answer t.answer, record { clock = s.clock; stage = record { ended = t.is_ended }; memory = t.memory })
+-- a situation once a line was taken or refused; core and clock keep
+abbrev pub after_line : {C : Type 0} → Situation C Loading → Taken → Result Unit Refusal × Situation C Loading
+after_line s t = (line_answer t.answer, record s { stage = record { ended = t.is_ended }; memory = t.memory })
 
 -- a line given to a loading board
-abbrev pub line_given : Situation Loading → List ℕ → Result Unit Refusal × Situation Loading
+abbrev pub line_given : {C : Type 0} → Situation C Loading → List ℕ → Result Unit Refusal × Situation C Loading
 line_given s line = after_line s (line_taken s.stage.ended s.memory line)
 
 -- an image with its end record is closed; without, the loading board comes back

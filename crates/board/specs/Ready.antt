@@ -1,11 +1,12 @@
 -- Reset.
 use Rattle.std.specs.Prelude.{ℕ, true, false, Ok, Err, Result}
-use Rattle.machine.specs.declared.access.Fault.{Fault}
-use Rattle.machine.specs.declared.registers.Registers.{Registers}
-use Rattle.machine.specs.declared.standing.Standing.{Standing}
-use Rattle.machine.specs.declared.standing.Standing.TheVariants.{Running, Halted}
-use Rattle.machine.specs.Access.{perform, fetch_word}
-use Rattle.board.specs.declared.stages.Live.{Live}
+use Rattle.access.specs.declared.fault.Fault.{Fault}
+use Rattle.state.specs.declared.registers.Registers.{Registers}
+use Rattle.state.specs.declared.standing.Standing.{Standing}
+use Rattle.state.specs.declared.standing.Standing.TheVariants.{Running, Halted}
+use Rattle.access.specs.Access.{perform}
+use Rattle.access.specs.Words.{fetch_word}
+use Rattle.state.specs.declared.live.Live.{Live}
 use Rattle.board.specs.declared.stages.Ready.{Ready}
 use Rattle.board.specs.Situation.{Situation}
 
@@ -23,7 +24,7 @@ abbrev pub reset_stage : Result ℕ Fault → Live
 reset_stage (Ok pc) = started pc Running
 reset_stage (Err fault) = started 0 Halted
 
--- reset takes PC from $FFFE and keeps clock and cells
-abbrev pub reset_of : Situation Ready → Situation Live
+-- reset takes PC from $FFFE and keeps core, clock and cells
+abbrev pub reset_of : {C : Type 0} → Situation C Ready → Situation C Live
 reset_of s =
-    record { clock = s.clock; stage = reset_stage (perform (fetch_word 0xFFFE) s.memory).0; memory = s.memory }
+    record { core = s.core; clock = s.clock; stage = reset_stage (perform (fetch_word 0xFFFE) s.memory).0; memory = s.memory }

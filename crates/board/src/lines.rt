@@ -1,16 +1,16 @@
 // The interrupt lines of a live board.
 ghost use Rattle.std.specs.Prelude.{◌≡◌, if◌then◌else◌, Ok, Err};
-ghost use Rattle.machine.specs.Lines.{with_line_raised, with_line_dropped};
+ghost use Rattle.state.specs.Lines.{with_line_raised, with_line_dropped};
 ghost use Rattle.board.specs.Lines.{line_exists, line_set};
 ghost use Rattle.board.specs.declared.refusal.Refusal.TheVariants.{NoSuchLine};
 ghost use Rattle.board.specs.Situation.{situation};
 
 use crate::board::Board;
 use crate::refusal::Refusal;
-use crate::stages::Live;
 use bus::traits::Bus;
 use isa::core08::Core;
-use machine::lines::{with_dropped, with_raised};
+use state::lines::{with_dropped, with_raised};
+use state::live::Live;
 
 // Refuses a line that no board has.
 fn require_line(line: u32) -> Result<(), Refusal>
@@ -22,11 +22,11 @@ fn require_line(line: u32) -> Result<(), Refusal>
     }
 }
 
+// Raising and dropping differ in the one call that changes the set: a parameter for it would need a contract of its own.
 impl<B: Bus, C: Core> Board<B, C, Live> {
     // Raises a line from 2 to 31.
     pub fn raise_line(&mut self, line: u32) -> Result<(), Refusal>
-        ensures meaning { (result, situation B.cells self.new) ≡ line_set with_line_raised line (situation B.cells self.old) }
-        ensures core { self.new.core ≡ self.old.core }
+        ensures { (result, situation B.cells self.new) ≡ line_set with_line_raised line (situation B.cells self.old) }
     {
         require_line(line)?;
         self.stage.lines = with_raised(self.stage.lines, line);
@@ -35,8 +35,7 @@ impl<B: Bus, C: Core> Board<B, C, Live> {
 
     // Drops a line from 2 to 31.
     pub fn drop_line(&mut self, line: u32) -> Result<(), Refusal>
-        ensures meaning { (result, situation B.cells self.new) ≡ line_set with_line_dropped line (situation B.cells self.old) }
-        ensures core { self.new.core ≡ self.old.core }
+        ensures { (result, situation B.cells self.new) ≡ line_set with_line_dropped line (situation B.cells self.old) }
     {
         require_line(line)?;
         self.stage.lines = with_dropped(self.stage.lines, line);

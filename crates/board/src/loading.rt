@@ -13,13 +13,10 @@ use srecord::load::take_line;
 impl<B: Bus, C: Core> Board<B, C, Loading> {
     // Takes a record line. A refused one changes nothing.
     pub fn line(&mut self, line: &[u8]) -> Result<(), Refusal>
-        ensures meaning { (result, situation B.cells self.new) ≡ line_given (situation B.cells self.old) line.now }
-        ensures core { self.new.core ≡ self.old.core }
+        ensures { (result, situation B.cells self.new) ≡ line_given (situation B.cells self.old) line.now }
     {
-        match take_line(&mut self.bus, &mut self.stage.ended, line) {
-            Ok(()) => Ok(()),
-            Err(refusal) => Err(Refusal::Line(refusal)),
-        }
+        take_line(&mut self.bus, &mut self.stage.ended, line)?;
+        Ok(())
     }
 
     // Closes the image, once its end record was taken.

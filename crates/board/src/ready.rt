@@ -4,13 +4,14 @@ ghost use Rattle.board.specs.Situation.{situation};
 ghost use Rattle.board.specs.Ready.{reset_of, reset_registers};
 
 use crate::board::Board;
-use crate::stages::{Live, Ready};
+use crate::stages::Ready;
+use access::words::read_word;
 use alu::flags::Flags;
 use bus::traits::Bus;
 use isa::core08::Core;
-use machine::access::read_word;
-use machine::registers::Registers;
-use machine::standing::Standing;
+use state::live::Live;
+use state::registers::Registers;
+use state::standing::Standing;
 
 // Where the reset vector stands.
 const RESET_VECTOR: u16 = 0xFFFE;
@@ -40,8 +41,7 @@ fn reset_registers(pc: u16) -> Registers
 impl<B: Bus, C: Core> Board<B, C, Ready> {
     // Starts at the reset vector with all lines dropped; halts where the vector is missing.
     pub fn reset(self) -> Board<B, C, Live>
-        ensures meaning { situation B.cells result ≡ reset_of (situation B.cells self) }
-        ensures core { result.core ≡ self.core }
+        ensures { situation B.cells result ≡ reset_of (situation B.cells self) }
     {
         let Board {
             mut bus,

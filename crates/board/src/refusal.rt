@@ -1,6 +1,7 @@
 // Why a call of a board is refused.
 ghost use Rattle.std.specs.Prelude.{◌≡◌};
 ghost use Rattle.board.specs.Refusal.{refusal_number};
+ghost use Rattle.board.specs.declared.refusal.Refusal.TheVariants.{Line};
 
 use srecord::refusal::LineRefusal;
 
@@ -24,13 +25,21 @@ pub enum Refusal {
     StartPastLimit,
 }
 
-impl Refusal {
-    // The refusal's number.
-    pub fn number(self) -> u8
-        ensures { result ≡ refusal_number self }
-    {
-        match self {
-            Refusal::Line(refusal) => refusal.number(),
+impl From<LineRefusal> for Refusal {
+    ghost from_gives = { λ line refusal. refusal ≡ Line line };
+
+    fn from(line: LineRefusal) -> Refusal {
+        Refusal::Line(line)
+    }
+}
+
+// The refusal's number.
+impl From<Refusal> for u8 {
+    ghost from_gives = { λ refusal number. number ≡ refusal_number refusal };
+
+    fn from(refusal: Refusal) -> u8 {
+        match refusal {
+            Refusal::Line(refusal) => u8::from(refusal),
             Refusal::NoEndRecord => 20,
             Refusal::BoardHalted => 30,
             Refusal::ClockPastLimit => 31,

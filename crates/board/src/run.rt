@@ -5,9 +5,9 @@ ghost use Rattle.board.specs.Run.{run_taken, run_given, end_number};
 
 use crate::board::Board;
 use crate::refusal::Refusal;
-use crate::stages::Live;
 use bus::traits::Bus;
 use isa::core08::Core;
+use state::live::Live;
 
 // The most steps of a run.
 const MOST_STEPS: u32 = 65_535;
@@ -17,16 +17,16 @@ fn end_number(ended: Option<Refusal>) -> u8
     ensures { result ≡ end_number ended }
 {
     match ended {
-        Some(refusal) => refusal.number(),
+        Some(refusal) => u8::from(refusal),
         None => 0,
     }
 }
 
 impl<B: Bus, C: Core> Board<B, C, Live> {
-    // Steps until the budget is spent or a step is refused. Answers the steps taken, their cycles and the number of the refusal.
+    // Steps until the budget is spent or a step is refused. Answers the steps taken, their cycles and the number of the refusal:
+    // a run's answer is three numbers in a tuple by a rule of the project.
     pub fn run(&mut self, budget: u32) -> Result<(u32, u32, u8), Refusal>
-        ensures meaning { (result, situation B.cells self.new) ≡ run_given (C.table self.old.core) (C.entry_figure self.old.core) budget (situation B.cells self.old) }
-        ensures core { self.new.core ≡ self.old.core }
+        ensures meaning { (result, situation B.cells self.new) ≡ run_given C.table C.entry_figure budget (situation B.cells self.old) }
         ensures clock_is_start_plus_cycles { IfOk result (λ ran. self.new.clock ≡ self.old.clock + ran.1) }
         ensures steps_within_budget { IfOk result (λ ran. ran.0 ≤ budget) }
     {
@@ -36,27 +36,24 @@ impl<B: Bus, C: Core> Board<B, C, Live> {
         Ok(self.run_steps(budget))
     }
 
+    // The clock tells the cycles. By a rule of the project the loop breaks with the refusal that ended it.
     fn run_steps(&mut self, budget: u32) -> (u32, u32, u8)
         requires { budget ≤ 65535 }
-        ensures meaning { (result, situation B.cells self.new) ≡ run_taken (C.table self.old.core) (C.entry_figure self.old.core) budget (situation B.cells self.old) }
-        ensures core { self.new.core ≡ self.old.core }
+        ensures meaning { (result, situation B.cells self.new) ≡ run_taken C.table C.entry_figure budget (situation B.cells self.old) }
         ensures clock_is_start_plus_cycles { self.new.clock ≡ self.old.clock + result.1 }
         ensures steps_within_budget { result.0 ≤ budget }
     {
+        let start = self.clock;
         let mut steps = 0;
-        let mut cycles = 0;
         let ended = loop {
             if steps == budget {
                 break None;
             }
             match self.step() {
-                Ok(spent) => {
-                    steps += 1;
-                    cycles += u32::from(spent);
-                }
+                Ok(_) => steps += 1,
                 Err(refusal) => break Some(refusal),
             }
         };
-        (steps, cycles, end_number(ended))
+        (steps, (self.clock - start) as u32, end_number(ended))
     }
 }

@@ -1,6 +1,4 @@
-// The four stages of a board's life.
-use machine::registers::Registers;
-use machine::standing::Standing;
+// The stages of a board's life before it is live; a live board's stage is what a live machine holds, `state::live::Live`.
 
 // No image yet.
 #[derive(Clone, Copy)]
@@ -16,12 +14,3 @@ pub struct Loading {
 // Holding an image, and not started.
 #[derive(Clone, Copy)]
 pub struct Ready;
-
-// Started: taking steps.
-#[derive(Clone, Copy)]
-pub struct Live {
-    pub registers: Registers,
-    pub standing: Standing,
-    // bit n is line n
-    pub lines: u32,
-}

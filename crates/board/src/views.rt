@@ -2,11 +2,11 @@
 ghost use Rattle.std.specs.Prelude.{◌≡◌};
 
 use crate::board::Board;
-use crate::stages::Live;
 use bus::traits::Bus;
 use isa::core08::Core;
-use machine::registers::Registers;
-use machine::standing::Standing;
+use state::live::Live;
+use state::registers::Registers;
+use state::standing::Standing;
 
 impl<B: Bus, C: Core, S> Board<B, C, S> {
     // The cycles that have passed, from the starting clock on.

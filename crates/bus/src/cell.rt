@@ -20,12 +20,12 @@ pub enum BusRefusal {
     GuardedCell,
 }
 
-impl BusRefusal {
-    // The refusal's number.
-    pub fn number(self) -> u8
-        ensures { result ≡ bus_number self }
-    {
-        match self {
+// The refusal's number.
+impl From<BusRefusal> for u8 {
+    ghost from_gives = { λ refusal number. number ≡ bus_number refusal };
+
+    fn from(refusal: BusRefusal) -> u8 {
+        match refusal {
             BusRefusal::MissingCell => 1,
             BusRefusal::GuardedCell => 2,
         }

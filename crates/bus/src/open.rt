@@ -13,21 +13,21 @@ pub struct OpenMemory {
     bytes: Vec<u8>,
 }
 
-impl OpenMemory {
-    // Takes the caller's bytes. Those past 65,536 have no address.
-    pub fn new(bytes: Vec<u8>) -> OpenMemory
-        ensures bytes { result.bytes ≡ bytes }
-        ensures shown { open_cells result.bytes.items ≡ open_cells bytes.items }
-    {
+// Takes the caller's bytes. Those past 65,536 have no address.
+impl From<Vec<u8>> for OpenMemory {
+    ghost from_gives = { λ bytes memory. (memory.bytes ≡ bytes) × (open_cells memory.bytes.items ≡ open_cells bytes.items) };
+
+    fn from(bytes: Vec<u8>) -> OpenMemory {
         OpenMemory { bytes }
     }
+}
 
-    // Gives the bytes back.
-    pub fn into_bytes(self) -> Vec<u8>
-        ensures { result ≡ self.bytes }
-    {
-        let OpenMemory { bytes } = self;
-        bytes
+// Gives the bytes back.
+impl From<OpenMemory> for Vec<u8> {
+    ghost from_gives = { λ memory bytes. bytes ≡ memory.bytes };
+
+    fn from(memory: OpenMemory) -> Vec<u8> {
+        memory.bytes
     }
 }
 
@@ -37,7 +37,7 @@ impl Bus for OpenMemory {
     ghost bounded = { Prim.search rules };
 
     fn class(&self, address: u16) -> Class {
-        if (address as usize) < self.bytes.len() {
+        if usize::from(address) < self.bytes.len() {
             Class::Open
         } else {
             Class::Missing
@@ -49,12 +49,8 @@ impl Bus for OpenMemory {
         ensures same { open_cells self.new.bytes.items ≡ open_cells self.old.bytes.items }
         ensures bytes { self.new.bytes.items ≡ self.old.bytes.items }
     {
-        let place = address as usize;
-        if place < self.bytes.len() {
-            Ok(self.bytes[place])
-        } else {
-            Err(BusRefusal::MissingCell)
-        }
+        let shown = self.bytes.get(usize::from(address));
+        shown.copied().ok_or(BusRefusal::MissingCell)
     }
 
     fn store(&mut self, address: u16, byte: u8) -> Result<(), BusRefusal>
@@ -63,12 +59,9 @@ impl Bus for OpenMemory {
         ensures bytes { self.new.bytes.items ≡ open_stored self.old.bytes.items address byte }
         ensures untouched { (k : ℕ) → 65536 ≤ k → slice_index self.new.bytes.items k ≡ slice_index self.old.bytes.items k }
     {
-        let place = address as usize;
-        if place < self.bytes.len() {
-            self.bytes[place] = byte;
-            Ok(())
-        } else {
-            Err(BusRefusal::MissingCell)
-        }
+        let cell = self.bytes.get_mut(usize::from(address));
+        let cell = cell.ok_or(BusRefusal::MissingCell)?;
+        *cell = byte;
+        Ok(())
     }
 }

@@ -1,8 +1,8 @@
 -- JMP, JSR and BSR.
 use Rattle.std.specs.Prelude.{ℕ}
 use Rattle.alu.specs.Addresses.{before}
-use Rattle.isa_whole.specs.declared.operation.Jump.{Jump}
-use Rattle.isa_whole.specs.declared.operation.Jump.TheVariants.{Jmp, Jsr, Bsr}
+use Rattle.isa.specs.declared.operation.Jump.{Jump}
+use Rattle.isa.specs.declared.operation.Jump.TheVariants.{Jmp, Jsr, Bsr}
 use Rattle.state.specs.declared.registers.Registers.{Registers}
 use Rattle.state.specs.Registers.{with_sp, with_pc}
 use Rattle.access.specs.Access.{Access, done, ◌>>=◌}

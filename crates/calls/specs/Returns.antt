@@ -1,8 +1,8 @@
 -- RTS and RTI.
 use Rattle.std.specs.Prelude.{ℕ}
 use Rattle.alu.specs.Addresses.{after}
-use Rattle.isa_whole.specs.declared.operation.Return.{Return}
-use Rattle.isa_whole.specs.declared.operation.Return.TheVariants.{Rts, Rti}
+use Rattle.isa.specs.declared.operation.Return.{Return}
+use Rattle.isa.specs.declared.operation.Return.TheVariants.{Rts, Rti}
 use Rattle.state.specs.declared.registers.Registers.{Registers}
 use Rattle.state.specs.Registers.{with_sp, with_pc}
 use Rattle.access.specs.Access.{Access, done, read, ◌>>=◌}

@@ -1,8 +1,8 @@
 -- Pushes and pulls.
 use Rattle.std.specs.Prelude.{ℕ}
 use Rattle.alu.specs.Addresses.{after, before}
-use Rattle.isa_whole.specs.declared.operation.StackOperation.{StackOperation}
-use Rattle.isa_whole.specs.declared.operation.StackOperation.TheVariants.{Psha, Pula, Pshx, Pulx, Pshh, Pulh}
+use Rattle.isa.specs.declared.operation.StackOperation.{StackOperation}
+use Rattle.isa.specs.declared.operation.StackOperation.TheVariants.{Psha, Pula, Pshx, Pulx, Pshh, Pulh}
 use Rattle.state.specs.declared.registers.Registers.{Registers}
 use Rattle.state.specs.Registers.{with_a, with_x, with_h, with_sp}
 use Rattle.access.specs.Access.{Access, done, read, store}

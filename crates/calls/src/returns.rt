@@ -1,7 +1,7 @@
 // RTS and RTI.
 ghost use Rattle.std.specs.Prelude.{◌≡◌};
 ghost use Rattle.access.specs.Access.{perform};
-ghost use Rattle.operands.specs.Leaves.{leaves};
+ghost use Rattle.operands.specs.Leaves.{Performs};
 ghost use Rattle.calls.specs.Returns.{from_subroutine, frame_read, from_interrupt, returned};
 
 use access::cells::read_cell;
@@ -9,16 +9,16 @@ use access::fault::Fault;
 use access::words::read_word;
 use bus::traits::Bus;
 use effects::frame::{Frame, restore};
-use isa_whole::operation::Return;
-use state::registers::Registers;
+use isa::operation::Return;
+use operands::processor::Processor;
 
 // Pulls the program counter.
-fn return_from_subroutine<B: Bus>(bus: &mut B, registers: &mut Registers) -> Result<(), Fault>
-    ensures { (result, registers.new, B.cells bus.new) ≡ leaves registers.old (perform (from_subroutine registers.old) (B.cells bus.old)) }
+fn return_from_subroutine<B: Bus>(processor: &mut Processor<'_, B>) -> Result<(), Fault>
+    ensures { Performs B.cells from_subroutine processor.old result processor.new }
 {
-    let sp = registers.sp;
-    registers.pc = read_word(bus, sp.wrapping_add(1))?;
-    registers.sp = sp.wrapping_add(2);
+    let sp = processor.registers.sp;
+    processor.registers.pc = read_word(processor.bus, sp.wrapping_add(1))?;
+    processor.registers.sp = sp.wrapping_add(2);
     Ok(())
 }
 
@@ -34,20 +34,20 @@ fn read_frame<B: Bus>(bus: &mut B, sp: u16) -> Result<Frame, Fault>
 }
 
 // Pulls the condition codes, A, X and the program counter.
-fn return_from_interrupt<B: Bus>(bus: &mut B, registers: &mut Registers) -> Result<(), Fault>
-    ensures { (result, registers.new, B.cells bus.new) ≡ leaves registers.old (perform (from_interrupt registers.old) (B.cells bus.old)) }
+fn return_from_interrupt<B: Bus>(processor: &mut Processor<'_, B>) -> Result<(), Fault>
+    ensures { Performs B.cells from_interrupt processor.old result processor.new }
 {
-    let frame = read_frame(bus, registers.sp)?;
-    restore(frame, registers);
+    let frame = read_frame(processor.bus, processor.registers.sp)?;
+    restore(frame, processor.registers);
     Ok(())
 }
 
 // Goes back from a subroutine or an interrupt.
-pub fn go_back<B: Bus>(bus: &mut B, way: Return, registers: &mut Registers) -> Result<(), Fault>
-    ensures { (result, registers.new, B.cells bus.new) ≡ leaves registers.old (perform (returned way registers.old) (B.cells bus.old)) }
+pub fn go_back<B: Bus>(processor: &mut Processor<'_, B>, way: Return) -> Result<(), Fault>
+    ensures { Performs B.cells (returned way) processor.old result processor.new }
 {
     match way {
-        Return::Rts => return_from_subroutine(bus, registers),
-        Return::Rti => return_from_interrupt(bus, registers),
+        Return::Rts => return_from_subroutine(processor),
+        Return::Rti => return_from_interrupt(processor),
     }
 }

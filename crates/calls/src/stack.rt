@@ -1,41 +1,38 @@
 // Pushes and pulls.
-ghost use Rattle.std.specs.Prelude.{◌≡◌};
-ghost use Rattle.access.specs.Access.{perform};
-ghost use Rattle.operands.specs.Leaves.{leaves};
+ghost use Rattle.operands.specs.Leaves.{Performs};
 ghost use Rattle.calls.specs.Stack.{pushed, stacked};
 
 use access::cells::{read_cell, store_cell};
 use access::fault::Fault;
 use bus::traits::Bus;
-use isa_whole::operation::StackOperation;
-use state::registers::Registers;
+use isa::operation::StackOperation;
+use operands::processor::Processor;
 
 // Pushes a byte.
-fn push<B: Bus>(bus: &mut B, byte: u8, registers: &mut Registers) -> Result<(), Fault>
-    ensures { (result, registers.new, B.cells bus.new) ≡ leaves registers.old (perform (pushed byte registers.old) (B.cells bus.old)) }
+fn push<B: Bus>(processor: &mut Processor<'_, B>, byte: u8) -> Result<(), Fault>
+    ensures { Performs B.cells (pushed byte) processor.old result processor.new }
 {
-    store_cell(bus, registers.sp, byte)?;
-    registers.sp = registers.sp.wrapping_sub(1);
+    store_cell(processor.bus, processor.registers.sp, byte)?;
+    processor.registers.sp = processor.registers.sp.wrapping_sub(1);
     Ok(())
 }
 
 // Pushes a register, or pulls it. No flag changes.
 pub fn use_stack<B: Bus>(
-    bus: &mut B,
+    processor: &mut Processor<'_, B>,
     operation: StackOperation,
-    registers: &mut Registers,
 ) -> Result<(), Fault>
-    ensures { (result, registers.new, B.cells bus.new) ≡ leaves registers.old (perform (stacked operation registers.old) (B.cells bus.old)) }
+    ensures { Performs B.cells (stacked operation) processor.old result processor.new }
 {
-    let top = registers.sp.wrapping_add(1);
+    let top = processor.registers.sp.wrapping_add(1);
     match operation {
-        StackOperation::Psha => return push(bus, registers.a, registers),
-        StackOperation::Pshx => return push(bus, registers.x, registers),
-        StackOperation::Pshh => return push(bus, registers.h, registers),
-        StackOperation::Pula => registers.a = read_cell(bus, top)?,
-        StackOperation::Pulx => registers.x = read_cell(bus, top)?,
-        StackOperation::Pulh => registers.h = read_cell(bus, top)?,
+        StackOperation::Psha => return push(processor, processor.registers.a),
+        StackOperation::Pshx => return push(processor, processor.registers.x),
+        StackOperation::Pshh => return push(processor, processor.registers.h),
+        StackOperation::Pula => processor.registers.a = read_cell(processor.bus, top)?,
+        StackOperation::Pulx => processor.registers.x = read_cell(processor.bus, top)?,
+        StackOperation::Pulh => processor.registers.h = read_cell(processor.bus, top)?,
     }
-    registers.sp = top;
+    processor.registers.sp = top;
     Ok(())
 }

@@ -1,8 +1,9 @@
 // When a branch is taken.
 use alu::flags::Flags;
 use bus::open::OpenMemory;
-use isa_whole::hcs08::Hcs08;
-use machine_whole::execute::execute;
+use isa::model::Model;
+use machine::execute::execute;
+use state::live::Live;
 use state::registers::Registers;
 use state::standing::Standing;
 use std::alloc::Global;
@@ -10,18 +11,22 @@ use std::test::Fail;
 
 // Where a branch at 0 by 16 bytes leads.
 fn lands(heap: Global, opcode: u8, ccr: u8, lines: u32) -> Result<u16, Fail> {
-    let mut memory = OpenMemory::new([opcode, 16].to_vec(heap)?);
-    let mut registers = Registers {
+    let mut memory = OpenMemory::from([opcode, 16].to_vec(heap)?);
+    let registers = Registers {
         a: 0,
         h: 0,
         x: 0,
         sp: 255,
         pc: 0,
-        flags: Flags::from_byte(ccr),
+        flags: Flags::from(ccr),
     };
-    let mut standing = Standing::Running;
-    match execute(&mut memory, &Hcs08, &mut registers, &mut standing, lines) {
-        Ok(_) => Ok(registers.pc),
+    let mut live = Live {
+        registers,
+        standing: Standing::Running,
+        lines,
+    };
+    match execute(&mut memory, &Model::Hcs08, &mut live) {
+        Ok(_) => Ok(live.registers.pc),
         Err(_) => Err(Fail::new("no branch")),
     }
 }

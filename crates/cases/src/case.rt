@@ -11,8 +11,9 @@ use alu::flags::Flags;
 use alu::words::{high_byte, low_byte};
 use bus::open::OpenMemory;
 use bus::traits::Bus;
-use isa_whole::model::Model;
-use machine_whole::execute::execute;
+use isa::model::Model;
+use machine::execute::execute;
+use state::live::Live;
 use state::registers::Registers;
 use state::standing::Standing;
 use std::alloc::Global;
@@ -48,7 +49,7 @@ fn registers_of(text: &str) -> Result<Registers, Fail> {
     let hx = word(words.next())?;
     let sp = word(words.next())?;
     let pc = word(words.next())?;
-    let flags = Flags::from_byte(byte(words.next())?);
+    let flags = Flags::from(byte(words.next())?);
     if words.next().is_some() {
         return Err(Fail::new(format_args!("more than six words: {text}")));
     }
@@ -65,7 +66,7 @@ fn registers_of(text: &str) -> Result<Registers, Fail> {
 
 // The registers as they are compared.
 fn columns(registers: &Registers) -> (u8, u16, u16, u16, u8) {
-    let codes = registers.flags.to_byte();
+    let codes = u8::from(registers.flags);
     (
         registers.a,
         registers.hx(),
@@ -86,7 +87,7 @@ fn store_cells(memory: &mut OpenMemory, cells: &str) -> Result<(), Fail> {
 
 // A memory of so many cells that holds a case's instruction and cells.
 fn set_up(heap: Global, size: usize, case: Case<'_>) -> Result<OpenMemory, Fail> {
-    let mut memory = OpenMemory::new(vec![in heap; 0u8; size]?);
+    let mut memory = OpenMemory::from(vec![in heap; 0u8; size]?);
     let mut address = registers_of(case.before)?.pc;
     for code in case.code.split_whitespace() {
         memory.store(address, byte(Some(code))?)?;
@@ -103,16 +104,19 @@ fn carry_out(
     size: usize,
     case: Case<'_>,
 ) -> Result<Result<u8, Fault>, Fail> {
-    let mut registers = registers_of(case.before)?;
-    let mut standing = Standing::Running;
+    let mut live = Live {
+        registers: registers_of(case.before)?,
+        standing: Standing::Running,
+        lines: 0,
+    };
     let mut memory = set_up(heap, size, case)?;
     let mut expected = set_up(heap, size, case)?;
     store_cells(&mut expected, case.stores)?;
-    let answer = execute(&mut memory, &core, &mut registers, &mut standing, 0);
+    let answer = execute(&mut memory, &core, &mut live);
     let wanted = registers_of(case.after)?;
-    check_eq(columns(&registers), columns(&wanted), case.text)?;
-    check_eq(standing, Standing::Running, case.text)?;
-    let (left, wanted) = (memory.into_bytes(), expected.into_bytes());
+    check_eq(columns(&live.registers), columns(&wanted), case.text)?;
+    check_eq(live.standing, Standing::Running, case.text)?;
+    let (left, wanted) = (Vec::from(memory), Vec::from(expected));
     if left.as_slice() != wanted.as_slice() {
         return Err(Fail::new(format_args!("other cells: {}", case.text)));
     }

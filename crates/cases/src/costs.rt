@@ -1,8 +1,8 @@
 // What every opcode costs.
 use crate::check::check_eq;
-use isa_whole::core08::Core;
-use isa_whole::model::Model;
-use isa_whole::row::Page;
+use isa::core08::Core;
+use isa::model::Model;
+use isa::row::Page;
 use std::test::Fail;
 
 // Opcodes with their bytes, and their cycles on the CPU08 and the HCS08; 0 where the core has no such instruction.
@@ -99,23 +99,17 @@ const SECOND: &[Group] = &[
     ("FF", 3, 0, 5),
 ];
 
-// The bytes and cycles of an opcode; none where it is no instruction.
-fn cost(core: Model, page: Page, opcode: u8) -> (u8, u8) {
-    match core.row(page, opcode) {
-        Some(row) => (row.bytes, row.cycles),
-        None => (0, 0),
-    }
+// The bytes and cycles of an opcode; zeros where it is no instruction.
+pub(crate) fn cost<C: Core>(core: &C, page: Page, opcode: u8) -> (u8, u8) {
+    core.row(page, opcode)
+        .map_or((0, 0), |row| (row.bytes, row.cycles))
 }
 
 // How many opcodes are instructions.
-fn known(core: Model, page: Page) -> u32 {
-    let mut count: u32 = 0;
-    for opcode in 0..=255 {
-        if core.row(page, opcode).is_some() {
-            count = count.wrapping_add(1);
-        }
-    }
-    count
+pub(crate) fn known<C: Core>(core: &C, page: Page) -> usize {
+    (0..=255)
+        .filter(|opcode| core.row(page, *opcode).is_some())
+        .count()
 }
 
 // Checks the opcodes of groups, and answers how many of them a core has.
@@ -130,7 +124,7 @@ fn counted(core: Model, page: Page, groups: &[Group]) -> Result<u32, Fail> {
         let expected = if cycles == 0 { (0, 0) } else { (bytes, cycles) };
         for opcode in opcodes.split_whitespace() {
             let opcode = u8::from_str_radix(opcode, 16)?;
-            check_eq(cost(core, page, opcode), expected, opcode)?;
+            check_eq(cost(&core, page, opcode), expected, opcode)?;
             if cycles != 0 {
                 count = count.wrapping_add(1);
             }
@@ -146,9 +140,9 @@ fn costs(rt: HostRuntime) -> Result<(), Fail> {
     assert_eq!(rt; counted(Model::Cpu08, Page::Second, SECOND)?, 41);
     assert_eq!(rt; counted(Model::Hcs08, Page::First, FIRST)?, 253);
     assert_eq!(rt; counted(Model::Hcs08, Page::Second, SECOND)?, 47);
-    assert_eq!(rt; known(Model::Cpu08, Page::First), 249);
-    assert_eq!(rt; known(Model::Cpu08, Page::Second), 41);
-    assert_eq!(rt; known(Model::Hcs08, Page::First), 253);
-    assert_eq!(rt; known(Model::Hcs08, Page::Second), 47);
+    assert_eq!(rt; known(&Model::Cpu08, Page::First), 249);
+    assert_eq!(rt; known(&Model::Cpu08, Page::Second), 41);
+    assert_eq!(rt; known(&Model::Hcs08, Page::First), 253);
+    assert_eq!(rt; known(&Model::Hcs08, Page::Second), 47);
     Ok(())
 }

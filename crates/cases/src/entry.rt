@@ -1,9 +1,9 @@
 // The entry of an interrupt request.
 use alu::flags::Flags;
 use bus::open::OpenMemory;
-use isa_whole::cpu08::Cpu08;
-use isa_whole::hcs08::Hcs08;
-use machine_whole::request::enter;
+use isa::model::Model;
+use machine::request::enter;
+use state::live::Live;
 use state::registers::Registers;
 use state::standing::Standing;
 use std::test::Fail;
@@ -16,27 +16,33 @@ fn frame(rt: HostRuntime) -> Result<(), Fail> {
     assert!(rt; bytes.len() == 65_536);
     bytes[65_524] = 0xAB;
     bytes[65_525] = 0xCD;
-    let mut registers = Registers {
+    let registers = Registers {
         a: 0x78,
         h: 0x9A,
         x: 0x56,
         sp: 2,
         pc: 0x1234,
-        flags: Flags::from_byte(0xE5),
+        flags: Flags::from(0xE5),
     };
-    let mut memory = OpenMemory::new(bytes);
-    let mut standing = Standing::Waiting;
-    let lines = 0x0000_0220;
-    let Ok(cycles) = enter(&mut memory, &Hcs08, &mut registers, &mut standing, lines) else {
+    let mut memory = OpenMemory::from(bytes);
+    let mut live = Live {
+        registers,
+        standing: Standing::Waiting,
+        lines: 0x0000_0220,
+    };
+    let Ok(cycles) = enter(&mut memory, &Model::Hcs08, &mut live) else {
         return Err(Fail::new("no entry"));
     };
-    assert_eq!(rt; (cycles, standing), (11, Standing::Running));
+    assert_eq!(rt; (cycles, live.standing), (11, Standing::Running));
     assert_eq!(rt;
-        (registers.pc, registers.sp, registers.hx()),
+        (live.registers.pc, live.registers.sp, live.registers.hx()),
         (0xABCD, 65_533, 0x9A56)
     );
-    assert_eq!(rt; (registers.a, registers.flags.to_byte()), (0x78, 0xED));
-    bytes = memory.into_bytes();
+    assert_eq!(rt;
+        (live.registers.a, u8::from(live.registers.flags)),
+        (0x78, 0xED)
+    );
+    bytes = Vec::from(memory);
     assert!(rt; bytes.len() == 65_536);
     assert_eq!(rt; (bytes[2], bytes[1], bytes[0]), (0x34, 0x12, 0x56));
     assert_eq!(rt; (bytes[65_535], bytes[65_534]), (0x78, 0xE5));
@@ -46,26 +52,54 @@ fn frame(rt: HostRuntime) -> Result<(), Fail> {
 // A vector that is missing: the frame is on the stack, and the registers and the standing are as they were.
 #[test]
 fn no_vector(rt: HostRuntime) -> Result<(), Fail> {
-    let mut memory = OpenMemory::new(vec![in rt.alloc(); 0u8; 256]?);
-    let mut registers = Registers {
+    let mut memory = OpenMemory::from(vec![in rt.alloc(); 0u8; 256]?);
+    let registers = Registers {
         a: 3,
         h: 0,
         x: 4,
         sp: 255,
         pc: 0x0102,
-        flags: Flags::from_byte(0x60),
+        flags: Flags::from(0x60),
     };
-    let mut standing = Standing::Stopped;
-    assert!(rt; enter(&mut memory, &Cpu08, &mut registers, &mut standing, 4).is_err());
-    assert_eq!(rt; standing, Standing::Stopped);
+    let mut live = Live {
+        registers,
+        standing: Standing::Stopped,
+        lines: 4,
+    };
+    assert!(rt; enter(&mut memory, &Model::Cpu08, &mut live).is_err());
+    assert_eq!(rt; live.standing, Standing::Stopped);
     assert_eq!(rt;
-        (registers.pc, registers.sp, registers.hx()),
+        (live.registers.pc, live.registers.sp, live.registers.hx()),
         (0x0102, 255, 4)
     );
-    assert_eq!(rt; (registers.a, registers.flags.to_byte()), (3, 0x60));
-    let bytes = memory.into_bytes();
+    assert_eq!(rt;
+        (live.registers.a, u8::from(live.registers.flags)),
+        (3, 0x60)
+    );
+    let bytes = Vec::from(memory);
     assert!(rt; bytes.len() == 256);
     assert_eq!(rt; (bytes[255], bytes[254], bytes[253]), (2, 1, 4));
     assert_eq!(rt; (bytes[252], bytes[251]), (3, 0x60));
+    Ok(())
+}
+
+// The same with registers that hold nothing.
+#[test]
+fn no_vector_for_blank_registers(rt: HostRuntime) -> Result<(), Fail> {
+    let mut memory = OpenMemory::from(vec![in rt.alloc(); 0u8; 256]?);
+    let registers = Registers {
+        a: 0,
+        h: 0,
+        x: 0,
+        sp: 255,
+        pc: 0,
+        flags: Flags::from(0x60),
+    };
+    let mut live = Live {
+        registers,
+        standing: Standing::Waiting,
+        lines: 4,
+    };
+    assert!(rt; enter(&mut memory, &Model::Cpu08, &mut live).is_err());
     Ok(())
 }

@@ -16,6 +16,8 @@ mod entry;
 #[cfg(test)]
 mod faults;
 #[cfg(test)]
+mod first_set;
+#[cfg(test)]
 mod jumps;
 #[cfg(test)]
 mod loads;

@@ -1,11 +1,14 @@
--- A column is its last digit after a column that is one narrower. Assumes nothing.
-use Rattle.std.proofs.Common.{◌≡◌, ℕ, ◌+◌, ◌-◌, ◌/◌, ◌%◌, ◌^◌, ◌<◌, ◌≤◌, List, [], ◌∷◌, ◌++◌, length, replicate, sym, refl, ap, ◌∙◌, append_assoc, lt_of_lt_of_le, arith}
+-- What a column is, and that `{:>w}` writes one. Assumes nothing.
+use Rattle.std.proofs.Common.{◌≡◌, ℕ, zero, suc, ◌-◌, ◌^◌, ◌<◌, ◌≤◌, ◌∷◌, length, replicate, refl, ap, append_assoc, append-nil, lt_of_lt_of_le, arith}
 use native.Mathlib.Nat.{pow-le-pow_right}
+use lib.Utf8.{encode}
 use Rattle.std.specs.Fmt as written
-use Rattle.std.proofs.lemmas.Fmt.{AppendsLastDigit, decimal_from_appends, decimal_digit, decimal_step, length-decimal-le}
-use Rattle.std.proofs.lemmas.List.{length-append, length-replicate, length_push}
-use Rattle.std.proofs.lemmas.Bool.{cond-true, cond-false, lt-ltb, le-ltb}
+use Rattle.std.specs.Fmt.{padded_integral, char_count, fill_text, format_spec}
+use Rattle.std.proofs.lemmas.Fmt.{AppendsLastDigit, decimal_from_appends, length-decimal-le}
+use Rattle.std.proofs.lemmas.List.{length-append, length-replicate}
+use Rattle.std.proofs.lemmas.Bool.{cond-true, cond-false, lt-ltb, le-ltb, ne_eqb}
 use Rattle.console.specs.Column.{digits_within, decimal, column}
+use Rattle.console.specs.Row.{right_aligned}
 
 spells : AppendsLastDigit digits_within
 spells = record { one = λ k n h. cond-true _ _ _ (lt-ltb n 10 h); more = λ k n h. cond-false _ _ _ (le-ltb n 10 h) }
@@ -14,47 +17,22 @@ spells = record { one = λ k n h. cond-true _ _ _ (lt-ltb n 10 h); more = λ k n
 pub decimal_is : (n : ℕ) → n < 10 ^ 10 → decimal n ≡ written.decimal n
 decimal_is n h = decimal_from_appends digits_within spells 10 n (omega arith) (length-decimal-le 10 n (omega arith) h (omega arith))
 
-pub one_digit : (n : ℕ) → n < 10 → decimal n ≡ (48 + n) ∷ []
-one_digit n h = decimal_is n (omega arith) ∙ decimal_digit n h
-
-pub last_digit : (n : ℕ) → 10 ≤ n → n < 10 ^ 10 → decimal n ≡ decimal (n / 10) ++ (48 + n % 10) ∷ []
-last_digit n more h =
-    let low : n / 10 < 10 ^ 10 = omega arith in
-    decimal_is n h ∙ decimal_step n more (omega arith) ∙ ap (λ ds. ds ++ (48 + n % 10) ∷ []) (sym (decimal_is (n / 10) low))
-
-pub length-decimal : (k n : ℕ) → 0 < k → n < 10 ^ k → n < 10 ^ 10 → length (decimal n) ≤ k
-length-decimal k n some h small = rw (decimal_is n small) (length-decimal-le k n some h (omega arith))
-
--- the front of a column, before its last digit: blanks, or a column that is one narrower
-pub column_digit : (width before n : ℕ) → before ≡ width - 1 → n < 10 → column width n ≡ replicate before 32 ++ (48 + n % 10) ∷ []
-column_digit width before n e h =
-    let same : n % 10 ≡ n = omega arith in
-    rw (one_digit n h, same, e) refl
-
-pub column_more : (width before n : ℕ) → before ≡ width - 1 → 10 ≤ n → n < 10 ^ 10 → column width n ≡ column before (n / 10) ++ (48 + n % 10) ∷ []
-column_more width before n e more h =
-    let pad : width - length (decimal (n / 10) ++ (48 + n % 10) ∷ []) ≡ before - length (decimal (n / 10)) = simp length_push (omega arith) in
-    rw (last_digit n more h, pad) (simp append_assoc)
-
-pub length-column : (width n : ℕ) → width ≤ 10 → n < 10 ^ 10 → length (column width n) ≤ 10
-length-column width n narrow h =
-    simp (length-append, length-replicate) (omega (arith, length-decimal 10 n (omega arith) h h))
-
 pub fills_width : (width n : ℕ) → 0 < width → width ≤ 10 → n < 10 ^ width → length (column width n) ≡ width
 fills_width width n some narrow h =
     let small : n < 10 ^ 10 = lt_of_lt_of_le h (pow-le-pow_right (omega arith) narrow) in
-    simp (length-append, length-replicate) (omega (arith, length-decimal width n some h small))
+    let digits : length (decimal n) ≤ width = rw (decimal_is n small) (length-decimal-le width n some h (omega arith)) in
+    simp (length-append, length-replicate) (omega (arith, digits))
 
--- pushing the front of a column and then its last digit pushes the column
-module _ (width n digit : ℕ) (front : List ℕ) (narrow : width ≤ 10) (small : n < 10 ^ 10) (split : column width n ≡ front ++ digit ∷ []) where
-  length-split : length (column width n) ≡ length front + 1
-  length-split = ap length split ∙ length_push front digit
+blanks : (width n : ℕ) → fill_text (format_spec 32 3 0 width (2 ^ 64 - 1)) n ≡ replicate n 32
+unfolding encode
+blanks width zero = refl
+blanks width (suc n) = ap (λ bs. 32 ∷ bs) (blanks width n)
 
-  pub length_front : length front < 10
-  length_front = omega (arith, length-split, length-column width n narrow small)
-
-  pub last_pushed : (xs ys zs : List ℕ) → ys ≡ xs ++ front → zs ≡ ys ++ digit ∷ [] → zs ≡ xs ++ column width n
-  last_pushed xs ys zs e f = rw (f, e, split) (append_assoc xs front (digit ∷ []))
-
-  pub last_counted : (k l m : ℕ) → l ≡ k + length front → m ≡ l + 1 → (m ≡ k + length (column width n)) × (m ≤ k + 10)
-  last_counted k l m e f = (omega (arith, length-split), omega (arith, length_front))
+-- the library's column is ours
+pub column_written : (width n : ℕ) → 0 < width → n < 10 ^ 10 → right_aligned width n ≡ column width n
+unfolding padded_integral char_count
+column_written width n some h =
+    let pad = width - length (written.decimal n) in
+    let whole : width - length (written.decimal n) - 0 - 0 ≡ pad = omega arith in
+    let none : pad - pad ≡ 0 = omega arith in
+    rw (ne_eqb width 0 (omega arith), whole, none, decimal_is n h, blanks width pad, append-nil (written.decimal n)) (simp append_assoc)

@@ -1,8 +1,10 @@
 -- What holds of the first line of a text. Assumes nothing.
-use Rattle.std.proofs.Common.{◌≡◌, ℕ, suc, ◌+◌, ◌-◌, ◌<◌, ◌≤◌, Bool, true, false, cond, eqb, ◌≢◌, List, [], ◌∷◌, length, get_or, take, drop, sym, refl, ap, ◌∙◌, inl, inr, ⊎_elim, add-one, arith}
-use Rattle.std.specs.List.{AllByRecursion}
-use Rattle.std.proofs.lemmas.List.{at_drop_more, at_drop_all, take_rest, drop-drop, drop_all, length-drop, nil_from_length}
-use Rattle.std.proofs.lemmas.Bool.{eqb-true, eqb-false, eq-eqb, ne_eqb, cond-true, cond-false}
+use Rattle.std.proofs.Common.{◌≡◌, ℕ, suc, ◌+◌, ◌-◌, ◌<◌, ◌≤◌, Bool, true, false, cond, eqb, ltb, ◌==◌, ◌≢◌, Some, None, List, [], ◌∷◌, length, take, drop, sym, refl, ap, ◌∙◌, inl, inr, ⊎_elim, add-one, arith}
+use Rattle.std.specs.List.{AllByRecursion, position, position_or_len}
+use Rattle.std.specs.Option.{unwrap_or}
+use Rattle.std.proofs.lemmas.List.Recursion.{is_position_or_len}
+use Rattle.std.proofs.lemmas.List.{take_rest, drop-drop, drop_all, length-drop, nil_from_length}
+use Rattle.std.proofs.lemmas.Bool.{eqb-true, eqb-false, cases_lt, lt-ltb, le-ltb}
 use Rattle.console.specs.Lines.{first_line, after_line, longer_first, lines_of, Splits}
 
 -- a fact of a test, where it holds of both answers
@@ -56,15 +58,18 @@ lines_step (c ∷ d ∷ cs) h =
     by_feed c (λ b. cond b ([] ∷ lines_of (d ∷ cs)) (longer_first c (lines_of (d ∷ cs))) ≡ cond b [] (c ∷ first_line (d ∷ cs)) ∷ lines_of (cond b (d ∷ cs) (after_line (d ∷ cs))))
     (λ _. refl) (λ _. ap (longer_first c) (lines_step (d ∷ cs) (omega arith)))
 
--- the line from a place on, where a line feed stands there, where another character does, and at the end
-pub line_at_feed : (text : List ℕ) (i : ℕ) → i < length text → get_or text i 0 ≡ 10 → first_line (drop i text) ≡ []
-line_at_feed text i h e = at_drop_more first_line text i 0 h ∙ cond-true _ _ _ (eq-eqb _ _ e)
+-- the line ends at the first line feed, or at the end
+line_by_position : (text : List ℕ) → length (first_line text) ≡ position_or_len (λ c. c == 10) text
+line_by_position =
+    is_position_or_len (λ text. length (first_line text)) (λ c. c == 10) refl
+    (λ c cs. by_feed c (λ b. length (cond b [] (c ∷ first_line cs)) ≡ cond b 0 (1 + length (first_line cs))) (λ _. refl) (λ _. omega arith))
 
-pub line_at_other : (text : List ℕ) (i : ℕ) → i < length text → get_or text i 0 ≢ 10 → first_line (drop i text) ≡ get_or text i 0 ∷ first_line (drop (i + 1) text)
-line_at_other text i h n = at_drop_more first_line text i 0 h ∙ cond-false _ _ _ (ne_eqb _ _ n)
+capped : (n most : ℕ) → n ≤ most → unwrap_or (cond (ltb n most) (Some n) None) most ≡ n
+capped n most h =
+    ⊎_elim (λ before. rw (lt-ltb n most before) refl) (λ past. rw (le-ltb n most past) (omega arith)) (cases_lt n most)
 
-pub line_at_end : (text : List ℕ) (i : ℕ) → length text ≤ i → first_line (drop i text) ≡ []
-line_at_end text i h = at_drop_all first_line text i h
+pub length_by_position : (text : List ℕ) → unwrap_or (position (λ c. c == 10) text) (length text) ≡ length (first_line text)
+length_by_position text = rw (sym (line_by_position text)) (capped (length (first_line text)) (length text) (length-line text))
 
 pub line_is : (text line : List ℕ) (n : ℕ) → n ≡ length (first_line text) → line ≡ take n text → line ≡ first_line text
 line_is text line n e f = f ∙ ap (λ k. take k text) e ∙ take-line text

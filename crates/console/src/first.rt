@@ -2,23 +2,15 @@
 ghost use Rattle.std.specs.Prelude.{◌≡◌};
 ghost use Rattle.console.specs.First.{core_of};
 
-// A core that a person may ask for.
-#[derive(Clone, Copy)]
-pub enum CoreName {
-    Cpu08,
-    Hcs08,
-}
+use isa::model::Model;
 
-// The core that the first line names: one letter, and nothing beside it.
-pub fn core_name(line: &[u8]) -> Option<CoreName>
+// The core that the first line names: one letter, and nothing beside it. `Model` is of another crate, so that this is no `TryFrom`.
+pub fn core_name(line: &[u8]) -> Option<Model>
     ensures { result ≡ core_of line.now }
 {
-    let [letter] = line else {
-        return None;
-    };
-    match *letter {
-        b'K' => Some(CoreName::Cpu08),
-        b'H' => Some(CoreName::Hcs08),
+    match line {
+        [b'K'] => Some(Model::Cpu08),
+        [b'H'] => Some(Model::Hcs08),
         _ => None,
     }
 }

@@ -1,5 +1,6 @@
 // The lines of a text. A line feed ends a line, and nothing follows a final one.
 ghost use Rattle.std.specs.Prelude.{◌≡◌, ◌<◌, ◌≢◌, [], ◌∷◌, length, MatchOption};
+ghost use Rattle.std.specs.Iterator.{YieldsFirstRef, item_count};
 ghost use Rattle.std.specs.List.{AllByRecursion};
 ghost use Rattle.console.specs.Lines.{first_line, after_line, lines_of, Splits};
 
@@ -7,12 +8,9 @@ ghost use Rattle.console.specs.Lines.{first_line, after_line, lines_of, Splits};
 fn line_length(text: &[u8]) -> usize
     ensures { result ≡ length (first_line text.now) }
 {
-    for (place, character) in text.iter().enumerate() {
-        if *character == b'\n' {
-            return place;
-        }
-    }
-    text.len()
+    text.iter()
+        .position(|character| *character == b'\n')
+        .unwrap_or(text.len())
 }
 
 // Cuts a text after its first line, and leaves the line feed out.
@@ -46,4 +44,22 @@ pub fn next_line(text: &[u8]) -> Option<(&[u8], &[u8])>
     }
     let (line, rest) = split_line(text);
     Some((line, rest))
+}
+
+// The lines of a text, one after another. The library's `split` would give an empty line after a final line feed.
+#[derive(Drop)]
+pub struct Lines<'a>(pub &'a [u8]);
+
+impl<'a> Iterator for Lines<'a> {
+    type Item = &'a [u8];
+
+    ghost next_gives = { YieldsFirstRef (λ left. lines_of left.0.now) };
+
+    ghost remaining = { item_count (λ left. lines_of left.0.now) };
+
+    fn next(&mut self) -> Option<&'a [u8]> {
+        let (line, rest) = next_line(self.0)?;
+        self.0 = rest;
+        Some(line)
+    }
 }

@@ -1,38 +1,37 @@
 // The orders: run some steps, raise a line, drop a line.
-ghost use Rattle.std.specs.Prelude.{◌≡◌, ◌≤◌, length};
-ghost use Rattle.console.specs.Order.{order_of, parts_of, number_of, digits_value};
+ghost use Rattle.std.specs.Prelude.{◌≡◌};
+ghost use Rattle.std.specs.Char.{is_ascii_digit};
+ghost use Rattle.std.specs.List.{list_all};
+ghost use Rattle.std.specs.Result.{result_ok};
+ghost use Rattle.console.specs.Order.{order_of, parts_of, number_of};
+
+use crate::understood::NotUnderstood;
+use std::str::from_utf8;
 
 // What a person asks for, with the number of steps or of the line.
-#[derive(Clone, Copy)]
+#[derive(Clone, Copy, PartialEq, Eq, Debug)]
 pub enum Order {
     Run(u32),
     Raise(u32),
     Drop(u32),
 }
 
-// The number that a few decimal digits write.
-fn read_digits(digits: &[u8]) -> Option<u32>
-    requires { length digits.now ≤ 5 }
-    ensures { result ≡ digits_value 0 digits.now }
+// Whether each character is a decimal digit.
+fn are_digits(text: &[u8]) -> bool
+    ensures { result ≡ list_all is_ascii_digit text.now }
 {
-    let mut value: u32 = 0;
-    for digit in digits {
-        if !digit.is_ascii_digit() {
-            return None;
-        }
-        value = value * 10 + u32::from(*digit - b'0');
-    }
-    Some(value)
+    text.iter().all(|character| character.is_ascii_digit())
 }
 
-// The number that one to five decimal digits write.
+// The number that one to five decimal digits write. `parse` alone would take a sign and more digits.
+#[tactic(auto, using(crate::proofs::OrderLaws::too_long, crate::proofs::OrderLaws::other_character, crate::proofs::OrderLaws::digits_are_text, crate::proofs::OrderLaws::parsed))]
 fn number(digits: &[u8]) -> Option<u32>
     ensures { result ≡ number_of digits.now }
 {
-    if digits.is_empty() || digits.len() > 5 {
+    if digits.len() > 5 || !are_digits(digits) {
         return None;
     }
-    read_digits(digits)
+    from_utf8(digits).ok()?.parse().ok()
 }
 
 // The letter and the number of a line, with one blank between them.
@@ -47,14 +46,18 @@ fn letter_and_number(line: &[u8]) -> Option<(u8, u32)>
 }
 
 // The order that a line is: a capital letter, one blank and a number.
-pub fn parse_order(line: &[u8]) -> Option<Order>
-    ensures { result ≡ order_of line.now }
-{
-    let (letter, count) = letter_and_number(line)?;
-    match letter {
-        b'R' => Some(Order::Run(count)),
-        b'U' => Some(Order::Raise(count)),
-        b'D' => Some(Order::Drop(count)),
-        _ => None,
+impl TryFrom<&[u8]> for Order {
+    type Error = NotUnderstood;
+
+    ghost try_from_gives = { λ line answer. result_ok answer ≡ order_of line.now };
+
+    fn try_from(line: &[u8]) -> Result<Order, NotUnderstood> {
+        let (letter, count) = letter_and_number(line).ok_or(NotUnderstood)?;
+        match letter {
+            b'R' => Ok(Order::Run(count)),
+            b'U' => Ok(Order::Raise(count)),
+            b'D' => Ok(Order::Drop(count)),
+            _ => Err(NotUnderstood),
+        }
     }
 }

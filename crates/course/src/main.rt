@@ -9,5 +9,5 @@ fn main(rt: HostRuntime) -> io::Result<()> {
     let mut input = Vec::new(rt.alloc());
     rt.stdin().take(INPUT_LIMIT as u64).read_to_end(&mut input)?;
     let printed = course(rt.alloc(), input.as_slice())?;
-    rt.stdout().write_all(printed.as_slice())
+    rt.stdout().write_all(printed.as_bytes())
 }

@@ -1,13 +1,14 @@
 -- The order that each branch is named for, by the flags of a comparison.
-use Rattle.std.proofs.Common.{◌≡◌, ℕ, zero, suc, ◌-◌, ◌*◌, ◌^◌, ◌<◌, ◌≤◌, cond, not, ◌||◌, eqb, ltb, leb, ℤ, pos, negsuc, ◌-ℤ◌, refl, ap, ◌∙◌, pow-suc, arith}
+use Rattle.std.proofs.Common.{◌≡◌, ℕ, ◌-◌, ◌*◌, ◌^◌, ◌<◌, ◌≤◌, cond, not, ◌||◌, eqb, ltb, leb, ℤ, pos, negsuc, ◌-ℤ◌, refl, ap, ◌∙◌, arith}
 use lib.Signed.{lt_z, le_z}
 use Rattle.std.proofs.lemmas.Int.{ints}
 use Rattle.std.proofs.lemmas.Bool.Decides.{nat_tests}
 use Rattle.alu.specs.declared.flags.Flags.{Flags}
 use Rattle.alu.specs.Flags.{unlike}
 use Rattle.alu.specs.Sums.{Compared, signed_value}
-use Rattle.isa_whole.specs.declared.operation.Condition.{Condition}
-use Rattle.isa_whole.specs.declared.operation.Condition.TheVariants.{Bra, Brn, Bhi, Bls, Bcc, Bcs, Bne, Beq, Bhcc, Bhcs, Bpl, Bmi, Bmc, Bms, Bil, Bih, Bge, Blt, Bgt, Ble}
+use Rattle.alu.proofs.Differences.{double}
+use Rattle.isa.specs.declared.operation.Condition.{Condition}
+use Rattle.isa.specs.declared.operation.Condition.TheVariants.{Bra, Brn, Bhi, Bls, Bcc, Bcs, Bne, Beq, Bhcc, Bhcs, Bpl, Bmi, Bmc, Bms, Bil, Bih, Bge, Blt, Bgt, Ble}
 use Rattle.effects.specs.Branch.{taken}
 use Rattle.effects.specs.Order.{NamedOrder}
 
@@ -37,11 +38,6 @@ module _ (p a b : ℕ) (h : a < 2 * p) (k : b < 2 * p) where
 
   not_above_z : (eqb a b || lt_z (signed p a) (signed p b)) ≡ le_z (signed p a) (signed p b)
   not_above_z = grind (arith, ints, nat_tests)
-
--- twice a power of two is the next one
-double : (w : ℕ) → 1 ≤ w → 2 ^ w ≡ 2 * 2 ^ (w - 1)
-double zero h = omega arith
-double (suc v) h = let e : suc v - 1 ≡ v = omega arith in omega (arith, pow-suc 2 v, ap (λ (n : ℕ). 2 ^ n) e)
 
 module _ (w a b : ℕ) (wide : 1 ≤ w) (f : Flags) (compared : Compared w a b f) where
   value : (n : ℕ) → signed_value w n ≡ signed (2 ^ (w - 1)) n

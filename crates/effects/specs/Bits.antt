@@ -2,12 +2,12 @@
 use Rattle.std.specs.Prelude.{ℕ, Bool, not}
 use Rattle.alu.specs.Bits.{bit_of, with_bit, without_bit}
 use Rattle.alu.specs.Flags.{with_c}
-use Rattle.isa_whole.specs.declared.operation.BitNumber.{BitNumber}
-use Rattle.isa_whole.specs.declared.operation.BitNumber.TheVariants.{B0, B1, B2, B3, B4, B5, B6, B7}
-use Rattle.isa_whole.specs.declared.operation.BitChange.{BitChange}
-use Rattle.isa_whole.specs.declared.operation.BitChange.TheVariants.{Bset, Bclr}
-use Rattle.isa_whole.specs.declared.operation.BitBranch.{BitBranch}
-use Rattle.isa_whole.specs.declared.operation.BitBranch.TheVariants.{Brset, Brclr}
+use Rattle.isa.specs.declared.operation.BitNumber.{BitNumber}
+use Rattle.isa.specs.declared.operation.BitNumber.TheVariants.{B0, B1, B2, B3, B4, B5, B6, B7}
+use Rattle.isa.specs.declared.operation.BitChange.{BitChange}
+use Rattle.isa.specs.declared.operation.BitChange.TheVariants.{Bset, Bclr}
+use Rattle.isa.specs.declared.operation.BitBranch.{BitBranch}
+use Rattle.isa.specs.declared.operation.BitBranch.TheVariants.{Brset, Brclr}
 use Rattle.state.specs.declared.registers.Registers.{Registers}
 use Rattle.state.specs.Registers.{with_flags}
 use Rattle.effects.specs.Branch.{branched_by}

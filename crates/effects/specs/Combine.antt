@@ -2,8 +2,8 @@
 use Rattle.std.specs.Prelude.{ℕ, false}
 use Rattle.alu.specs.Sums.{sum_of, difference_of}
 use Rattle.alu.specs.Logic.{test_of, and_of, or_of, exclusive_or_of}
-use Rattle.isa_whole.specs.declared.operation.RegisterMemory.{RegisterMemory}
-use Rattle.isa_whole.specs.declared.operation.RegisterMemory.TheVariants.{Sub, Cmp, Sbc, Cpx, And, Bit, Lda, Eor, Adc, Ora, Add, Ldx}
+use Rattle.isa.specs.declared.operation.RegisterMemory.{RegisterMemory}
+use Rattle.isa.specs.declared.operation.RegisterMemory.TheVariants.{Sub, Cmp, Sbc, Cpx, And, Bit, Lda, Eor, Adc, Ora, Add, Ldx}
 use Rattle.state.specs.declared.registers.Registers.{Registers}
 use Rattle.state.specs.Registers.{with_a, with_x, with_flags}
 

@@ -1,6 +1,6 @@
 -- CBEQ, once its operand was read.
 use Rattle.std.specs.Prelude.{ℕ, ◌==◌}
-use Rattle.isa_whole.specs.declared.row.Mode.{Mode}
+use Rattle.isa.specs.declared.row.Mode.{Mode}
 use Rattle.state.specs.declared.registers.Registers.{Registers}
 use Rattle.effects.specs.Branch.{branched_by}
 use Rattle.effects.specs.Pointers.{went_on}

@@ -4,8 +4,8 @@ use Rattle.alu.specs.declared.flags.Flags.{Flags}
 use Rattle.alu.specs.Logic.{test_of}
 use Rattle.alu.specs.Shifts.{shift_left_of, shift_right_of, arithmetic_shift_right_of, rotate_left_of, rotate_right_of}
 use Rattle.alu.specs.Unary.{negate_of, complement_of, increment_of, decrement_of, clear_of}
-use Rattle.isa_whole.specs.declared.operation.ReadModifyWrite.{ReadModifyWrite}
-use Rattle.isa_whole.specs.declared.operation.ReadModifyWrite.TheVariants.{Neg, Com, Lsr, Ror, Asr, Lsl, Rol, Dec, Inc, Tst, Clr}
+use Rattle.isa.specs.declared.operation.ReadModifyWrite.{ReadModifyWrite}
+use Rattle.isa.specs.declared.operation.ReadModifyWrite.TheVariants.{Neg, Com, Lsr, Ror, Asr, Lsl, Rol, Dec, Inc, Tst, Clr}
 
 -- the byte and the flags that each operation leaves
 abbrev pub modified : ReadModifyWrite → ℕ → Flags → ℕ × Flags

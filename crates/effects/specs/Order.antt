@@ -2,10 +2,10 @@
 use Rattle.std.specs.Prelude.{◌≡◌, ℕ, Bool, not, ◌==◌, int_le, int_lt, nat_le, nat_lt}
 use Rattle.alu.specs.declared.flags.Flags.{Flags}
 use Rattle.alu.specs.Sums.{Compared, signed_value}
-use Rattle.isa_whole.specs.declared.operation.RegisterMemory.{RegisterMemory}
-use Rattle.isa_whole.specs.declared.operation.RegisterMemory.TheVariants.{Sub, Cmp, Sbc, Cpx, And, Bit, Lda, Eor, Adc, Ora, Add, Ldx}
-use Rattle.isa_whole.specs.declared.operation.Condition.{Condition}
-use Rattle.isa_whole.specs.declared.operation.Condition.TheVariants.{Bra, Brn, Bhi, Bls, Bcc, Bcs, Bne, Beq, Bhcc, Bhcs, Bpl, Bmi, Bmc, Bms, Bil, Bih, Bge, Blt, Bgt, Ble}
+use Rattle.isa.specs.declared.operation.RegisterMemory.{RegisterMemory}
+use Rattle.isa.specs.declared.operation.RegisterMemory.TheVariants.{Sub, Cmp, Sbc, Cpx, And, Bit, Lda, Eor, Adc, Ora, Add, Ldx}
+use Rattle.isa.specs.declared.operation.Condition.{Condition}
+use Rattle.isa.specs.declared.operation.Condition.TheVariants.{Bra, Brn, Bhi, Bls, Bcc, Bcs, Bne, Beq, Bhcc, Bhcs, Bpl, Bmi, Bmc, Bms, Bil, Bih, Bge, Blt, Bgt, Ble}
 use Rattle.state.specs.declared.registers.Registers.{Registers}
 
 -- the order that a branch is named for, of the numbers a and b of w bits: BHI is taken where a is above b, BGT where the

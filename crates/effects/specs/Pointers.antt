@@ -1,10 +1,10 @@
 -- The pointers: AIS and AIX, and H:X that goes on.
 use Rattle.std.specs.Prelude.{ℕ, Bool, true, false, cond}
 use Rattle.alu.specs.Addresses.{after, displaced_by}
-use Rattle.isa_whole.specs.declared.operation.Pointer.{Pointer}
-use Rattle.isa_whole.specs.declared.operation.Pointer.TheVariants.{Ais, Aix}
-use Rattle.isa_whole.specs.declared.row.Mode.{Mode}
-use Rattle.isa_whole.specs.declared.row.Mode.TheVariants.{Inherent, InherentA, InherentX, Immediate, Direct, Extended, Indexed2, Indexed1, Indexed, Stack2, Stack1, Relative, Indexed1Plus, IndexedPlus, DirectDirect, DirectIndexedPlus, ImmediateDirect, IndexedPlusDirect}
+use Rattle.isa.specs.declared.operation.Pointer.{Pointer}
+use Rattle.isa.specs.declared.operation.Pointer.TheVariants.{Ais, Aix}
+use Rattle.isa.specs.declared.row.Mode.{Mode}
+use Rattle.isa.specs.declared.row.Mode.TheVariants.{Inherent, InherentA, InherentX, Immediate, Direct, Extended, Indexed2, Indexed1, Indexed, Stack2, Stack1, Relative, Indexed1Plus, IndexedPlus, DirectDirect, DirectIndexedPlus, ImmediateDirect, IndexedPlusDirect}
 use Rattle.state.specs.declared.registers.Registers.{Registers}
 use Rattle.state.specs.Registers.{hx, with_hx, with_sp}
 

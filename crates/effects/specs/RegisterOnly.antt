@@ -6,8 +6,8 @@ use Rattle.alu.specs.Logic.{test_of}
 use Rattle.alu.specs.Products.{multiply_of, divide_of}
 use Rattle.alu.specs.Unary.{swapped}
 use Rattle.alu.specs.Words.{word_of, high_byte}
-use Rattle.isa_whole.specs.declared.operation.RegisterOnly.{RegisterOnly}
-use Rattle.isa_whole.specs.declared.operation.RegisterOnly.TheVariants.{Mul, Div, Nsa, Daa, Tap, Tpa, Clrh, Txs, Tsx, Tax, Txa, Clc, Sec, Cli, Sei, Rsp, Nop}
+use Rattle.isa.specs.declared.operation.RegisterOnly.{RegisterOnly}
+use Rattle.isa.specs.declared.operation.RegisterOnly.TheVariants.{Mul, Div, Nsa, Daa, Tap, Tpa, Clrh, Txs, Tsx, Tax, Txa, Clc, Sec, Cli, Sei, Rsp, Nop}
 use Rattle.state.specs.declared.registers.Registers.{Registers}
 use Rattle.state.specs.Registers.{with_a, with_x, with_h, with_hx, with_sp, with_flags}
 use Rattle.alu.specs.Addresses.{after, before}

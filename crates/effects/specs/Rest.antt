@@ -1,8 +1,8 @@
 -- STOP, WAIT and BGND.
 use Rattle.std.specs.Prelude.{false}
 use Rattle.alu.specs.Flags.{with_i}
-use Rattle.isa_whole.specs.declared.operation.Standstill.{Standstill}
-use Rattle.isa_whole.specs.declared.operation.Standstill.TheVariants.{Stop, Wait, Bgnd}
+use Rattle.isa.specs.declared.operation.Standstill.{Standstill}
+use Rattle.isa.specs.declared.operation.Standstill.TheVariants.{Stop, Wait, Bgnd}
 use Rattle.state.specs.declared.registers.Registers.{Registers}
 use Rattle.state.specs.declared.standing.Standing.{Standing}
 use Rattle.state.specs.declared.standing.Standing.TheVariants.{Waiting, Stopped, Halted}

@@ -1,35 +1,19 @@
 // Bits of a memory byte.
 ghost use Rattle.std.specs.Prelude.{◌≡◌};
-ghost use Rattle.effects.specs.Bits.{place_of, bit_changed, bit_wanted, branched_on};
+ghost use Rattle.effects.specs.Bits.{bit_changed, bit_wanted, branched_on};
 
 use crate::branch::branch_by;
 use alu::bits::{clear_bit, is_bit_set, set_bit};
-use isa_whole::operation::{BitBranch, BitChange, BitNumber};
+use isa::operation::{BitBranch, BitChange, BitNumber};
 use state::registers::Registers;
-
-// The place of a bit, counted from the lowest.
-fn place(bit: BitNumber) -> u32
-    ensures { result ≡ place_of bit }
-{
-    match bit {
-        BitNumber::B0 => 0,
-        BitNumber::B1 => 1,
-        BitNumber::B2 => 2,
-        BitNumber::B3 => 3,
-        BitNumber::B4 => 4,
-        BitNumber::B5 => 5,
-        BitNumber::B6 => 6,
-        BitNumber::B7 => 7,
-    }
-}
 
 // The byte that BSET or BCLR makes of a byte.
 pub fn change_bit(change: BitChange, bit: BitNumber, byte: u8) -> u8
     ensures { result ≡ bit_changed change bit byte }
 {
     match change {
-        BitChange::Bset => set_bit(byte, place(bit)),
-        BitChange::Bclr => clear_bit(byte, place(bit)),
+        BitChange::Bset => set_bit(byte, bit as u32),
+        BitChange::Bclr => clear_bit(byte, bit as u32),
     }
 }
 
@@ -47,7 +31,9 @@ fn is_wanted(branch: BitBranch, bit: bool) -> bool
 pub fn branch_on(branch: BitBranch, bit: BitNumber, byte: u8, offset: u8, registers: &mut Registers)
     ensures { registers.new ≡ branched_on branch bit byte offset registers.old }
 {
-    let tested = is_bit_set(byte, place(bit));
+    let tested = is_bit_set(byte, bit as u32);
     registers.flags.c = tested;
-    branch_by(is_wanted(branch, tested), offset, registers);
+    if is_wanted(branch, tested) {
+        branch_by(offset, registers);
+    }
 }

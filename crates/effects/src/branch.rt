@@ -1,16 +1,17 @@
 // When a branch is taken.
-ghost use Rattle.std.specs.Prelude.{◌≡◌, ℕ, ◌^◌, ◌<◌, ◌≤◌};
+ghost use Rattle.std.specs.Prelude.{◌≡◌, ℕ, ◌^◌, ◌<◌, ◌≤◌, true};
 ghost use Rattle.alu.specs.Sums.{Compared};
 ghost use Rattle.effects.specs.Branch.{taken, branched_to, branched_by};
 ghost use Rattle.effects.specs.Order.{NamedOrder};
 
 use alu::addresses::displaced;
 use alu::flags::Flags;
-use isa_whole::operation::Condition;
+use isa::operation::Condition;
 use state::lines::is_raised;
 use state::registers::Registers;
 
 // Whether a branch is taken. After a comparison it is taken where the numbers stand in the order that the branch is named for.
+#[tactic(auto, using(crate::proofs::Orders::ordered))]
 pub fn is_taken(condition: Condition, flags: Flags, lines: u32) -> bool
     ensures value { result ≡ taken condition flags lines }
     ensures order { (w a b : ℕ) → 1 ≤ w → a < 2 ^ w → b < 2 ^ w → Compared w a b flags → NamedOrder condition w a b result }
@@ -46,19 +47,18 @@ fn holds(condition: Condition, flags: Flags, lines: u32) -> bool
     }
 }
 
-// Goes on at a target, where a branch is taken.
-pub fn branch_to(taken: bool, target: u16, registers: &mut Registers)
-    ensures { registers.new ≡ branched_to taken target registers.old }
+// Goes on at a target where a condition holds.
+pub fn branch_where(condition: Condition, target: u16, lines: u32, registers: &mut Registers)
+    ensures { registers.new ≡ branched_to (taken condition registers.old.flags lines) target registers.old }
 {
-    if taken {
+    if is_taken(condition, registers.flags, lines) {
         registers.pc = target;
     }
 }
 
-// Goes on at a signed offset from the next instruction, where a branch is taken.
-pub fn branch_by(taken: bool, offset: u8, registers: &mut Registers)
-    ensures { registers.new ≡ branched_by taken offset registers.old }
+// Goes on at a signed offset from the next instruction.
+pub fn branch_by(offset: u8, registers: &mut Registers)
+    ensures { registers.new ≡ branched_by true offset registers.old }
 {
-    let target = displaced(registers.pc, offset);
-    branch_to(taken, target, registers);
+    registers.pc = displaced(registers.pc, offset);
 }

@@ -3,12 +3,12 @@ ghost use Rattle.std.specs.Prelude.{◌≡◌};
 ghost use Rattle.effects.specs.Combine.{combined};
 ghost use Rattle.effects.specs.Order.{ComparesByte};
 
-use alu::logic::{and, exclusive_or, or, test_byte};
+use alu::logic::{and, exclusive_or, or, test};
 use alu::sums::{add, subtract};
-use isa_whole::operation::RegisterMemory;
+use isa::operation::RegisterMemory;
 use state::registers::Registers;
 
-// After CMP and CPX the flags order A, or X, and the byte.
+// After CMP and CPX the flags order A, or X, and the byte. The kinds are closed: a match that the checker sees whole is plainer than a table of functions.
 pub fn combine(operation: RegisterMemory, byte: u8, registers: &mut Registers)
     ensures value { registers.new ≡ combined operation byte registers.old }
     ensures compared { ComparesByte operation byte registers.old registers.new.flags }
@@ -22,11 +22,11 @@ pub fn combine(operation: RegisterMemory, byte: u8, registers: &mut Registers)
         RegisterMemory::Cpx => registers.flags = subtract(registers.x, byte, false, flags).1,
         RegisterMemory::And => registers.put_a(and(a, byte, flags)),
         RegisterMemory::Bit => registers.flags = and(a, byte, flags).1,
-        RegisterMemory::Lda => registers.put_a(test_byte(byte, flags)),
+        RegisterMemory::Lda => registers.put_a(test(byte, flags)),
         RegisterMemory::Eor => registers.put_a(exclusive_or(a, byte, flags)),
         RegisterMemory::Adc => registers.put_a(add(a, byte, flags.c, flags)),
         RegisterMemory::Ora => registers.put_a(or(a, byte, flags)),
         RegisterMemory::Add => registers.put_a(add(a, byte, false, flags)),
-        RegisterMemory::Ldx => registers.put_x(test_byte(byte, flags)),
+        RegisterMemory::Ldx => registers.put_x(test(byte, flags)),
     }
 }

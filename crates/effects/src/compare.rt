@@ -4,7 +4,7 @@ ghost use Rattle.effects.specs.Compare.{branched_where_a};
 
 use crate::branch::branch_by;
 use crate::pointers::go_on;
-use isa_whole::row::Mode;
+use isa::row::Mode;
 use state::registers::Registers;
 
 // Branches where A equals a byte. H:X goes on by 1, in the modes that say so.
@@ -13,5 +13,7 @@ pub fn branch_where_a_is(byte: u8, offset: u8, mode: Mode, registers: &mut Regis
 {
     let equal = registers.a == byte;
     go_on(mode, registers);
-    branch_by(equal, offset, registers);
+    if equal {
+        branch_by(offset, registers);
+    }
 }

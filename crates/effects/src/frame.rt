@@ -18,7 +18,7 @@ pub struct Frame {
 pub fn restore(frame: Frame, registers: &mut Registers)
     ensures { registers.new ≡ restored frame registers.old }
 {
-    registers.flags = Flags::from_byte(frame.codes);
+    registers.flags = Flags::from(frame.codes);
     registers.a = frame.a;
     registers.x = frame.x;
     registers.pc = frame.pc;

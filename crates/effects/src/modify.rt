@@ -3,12 +3,12 @@ ghost use Rattle.std.specs.Prelude.{◌≡◌};
 ghost use Rattle.effects.specs.Modify.{modified};
 
 use alu::flags::Flags;
-use alu::logic::test_byte;
+use alu::logic::test;
 use alu::shifts::{arithmetic_shift_right, rotate_left, rotate_right, shift_left, shift_right};
 use alu::unary::{clear, complement, decrement, increment, negate};
-use isa_whole::operation::ReadModifyWrite;
+use isa::operation::ReadModifyWrite;
 
-// The byte and the flags that an operation makes of a byte.
+// The byte and the flags that an operation makes of a byte. The kinds are closed: a match that the checker sees whole is plainer than a table of functions.
 pub fn modify(operation: ReadModifyWrite, byte: u8, flags: Flags) -> (u8, Flags)
     ensures { result ≡ modified operation byte flags }
 {
@@ -22,7 +22,7 @@ pub fn modify(operation: ReadModifyWrite, byte: u8, flags: Flags) -> (u8, Flags)
         ReadModifyWrite::Rol => rotate_left(byte, flags),
         ReadModifyWrite::Dec => decrement(byte, flags),
         ReadModifyWrite::Inc => increment(byte, flags),
-        ReadModifyWrite::Tst => test_byte(byte, flags),
+        ReadModifyWrite::Tst => test(byte, flags),
         ReadModifyWrite::Clr => clear(flags),
     }
 }

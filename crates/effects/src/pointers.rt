@@ -3,8 +3,8 @@ ghost use Rattle.std.specs.Prelude.{◌≡◌};
 ghost use Rattle.effects.specs.Pointers.{displacing, went_on};
 
 use alu::addresses::displaced;
-use isa_whole::operation::Pointer;
-use isa_whole::row::Mode;
+use isa::operation::Pointer;
+use isa::row::Mode;
 use state::registers::Registers;
 
 // Moves a pointer by a signed byte.

@@ -4,11 +4,11 @@ ghost use Rattle.effects.specs.RegisterOnly.{registered, divided, multiplied};
 
 use alu::decimal::decimal_adjust;
 use alu::flags::Flags;
-use alu::logic::test_byte;
+use alu::logic::test;
 use alu::products::{divide, multiply};
 use alu::unary::swap_nibbles;
 use alu::words::{high_byte, word};
-use isa_whole::operation::RegisterOnly;
+use isa::operation::RegisterOnly;
 use state::registers::Registers;
 
 // X:A is the product of X and A.
@@ -31,6 +31,7 @@ fn quotient(registers: &mut Registers)
     registers.flags = flags;
 }
 
+// The kinds are closed: a match that the checker sees whole is plainer than a table of functions.
 pub fn register_only(operation: RegisterOnly, registers: &mut Registers)
     ensures { registers.new ≡ registered operation registers.old }
 {
@@ -41,9 +42,9 @@ pub fn register_only(operation: RegisterOnly, registers: &mut Registers)
         RegisterOnly::Div => quotient(registers),
         RegisterOnly::Nsa => registers.a = swap_nibbles(a),
         RegisterOnly::Daa => registers.put_a(decimal_adjust(a, flags)),
-        RegisterOnly::Tap => registers.flags = Flags::from_byte(a),
-        RegisterOnly::Tpa => registers.a = flags.to_byte(),
-        RegisterOnly::Clrh => registers.put_h(test_byte(0, flags)),
+        RegisterOnly::Tap => registers.flags = Flags::from(a),
+        RegisterOnly::Tpa => registers.a = u8::from(flags),
+        RegisterOnly::Clrh => registers.put_h(test(0, flags)),
         RegisterOnly::Txs => registers.sp = registers.hx().wrapping_sub(1),
         RegisterOnly::Tsx => registers.put_hx(registers.sp.wrapping_add(1)),
         RegisterOnly::Tax => registers.x = a,

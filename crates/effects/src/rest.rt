@@ -2,7 +2,7 @@
 ghost use Rattle.std.specs.Prelude.{◌≡◌};
 ghost use Rattle.effects.specs.Rest.{rested, stands_at};
 
-use isa_whole::operation::Standstill;
+use isa::operation::Standstill;
 use state::registers::Registers;
 use state::standing::Standing;
 

@@ -1,6 +1,6 @@
 -- BRSET and BRCLR.
-use Rattle.isa_whole.specs.declared.operation.BitBranch.{BitBranch}
-use Rattle.isa_whole.specs.declared.operation.BitNumber.{BitNumber}
+use Rattle.isa.specs.declared.operation.BitBranch.{BitBranch}
+use Rattle.isa.specs.declared.operation.BitNumber.{BitNumber}
 use Rattle.state.specs.declared.registers.Registers.{Registers}
 use Rattle.access.specs.Access.{Access, done, read}
 use Rattle.effects.specs.Bits.{branched_on}

@@ -1,8 +1,8 @@
 -- CBEQ, CBEQA and CBEQX.
 use Rattle.std.specs.Prelude.{ℕ, eqb}
 use Rattle.alu.specs.Addresses.{after}
-use Rattle.isa_whole.specs.declared.operation.CompareBranch.{CompareBranch}
-use Rattle.isa_whole.specs.declared.operation.CompareBranch.TheVariants.{Cbeq, Cbeqa, Cbeqx}
+use Rattle.isa.specs.declared.operation.CompareBranch.{CompareBranch}
+use Rattle.isa.specs.declared.operation.CompareBranch.TheVariants.{Cbeq, Cbeqa, Cbeqx}
 use Rattle.state.specs.declared.registers.Registers.{Registers}
 use Rattle.access.specs.Access.{Access, done, read}
 use Rattle.effects.specs.Branch.{branched_by}

@@ -1,7 +1,5 @@
 // CBEQ, CBEQA and CBEQX.
-ghost use Rattle.std.specs.Prelude.{◌≡◌};
-ghost use Rattle.access.specs.Access.{perform};
-ghost use Rattle.operands.specs.Leaves.{leaves};
+ghost use Rattle.operands.specs.Leaves.{Performs};
 ghost use Rattle.flow.specs.Compare.{compared_immediate, compared_operand, branched_where_equal};
 
 use access::cells::read_cell;
@@ -9,51 +7,47 @@ use access::fault::Fault;
 use bus::traits::Bus;
 use effects::branch::branch_by;
 use effects::compare::branch_where_a_is;
-use isa_whole::operation::CompareBranch;
-use operands::address::{Operand, behind_address};
-use state::registers::Registers;
+use isa::operation::CompareBranch;
+use operands::address::Operand;
+use operands::processor::Processor;
 
 // Branches where a register equals the byte after the opcode.
 fn compare_immediate<B: Bus>(
-    bus: &mut B,
+    processor: &mut Processor<'_, B>,
     register: u8,
     operand: Operand,
-    registers: &mut Registers,
 ) -> Result<(), Fault>
-    ensures { (result, registers.new, B.cells bus.new) ≡ leaves registers.old (perform (compared_immediate register operand registers.old) (B.cells bus.old)) }
+    ensures { Performs B.cells (compared_immediate register operand) processor.old result processor.new }
 {
-    let byte = read_cell(bus, operand.bytes)?;
-    let offset = read_cell(bus, operand.bytes.wrapping_add(1))?;
-    branch_by(register == byte, offset, registers);
+    let byte = read_cell(processor.bus, operand.bytes)?;
+    let offset = read_cell(processor.bus, operand.bytes.wrapping_add(1))?;
+    if register == byte {
+        branch_by(offset, processor.registers);
+    }
     Ok(())
 }
 
 // Branches where A equals the operand in memory.
-fn compare_operand<B: Bus>(
-    bus: &mut B,
-    operand: Operand,
-    registers: &mut Registers,
-) -> Result<(), Fault>
-    ensures { (result, registers.new, B.cells bus.new) ≡ leaves registers.old (perform (compared_operand operand registers.old) (B.cells bus.old)) }
+fn compare_operand<B: Bus>(processor: &mut Processor<'_, B>, operand: Operand) -> Result<(), Fault>
+    ensures { Performs B.cells (compared_operand operand) processor.old result processor.new }
 {
-    let offset = read_cell(bus, behind_address(operand))?;
-    let byte = read_cell(bus, operand.address)?;
-    branch_where_a_is(byte, offset, operand.mode, registers);
+    let offset = read_cell(processor.bus, operand.behind())?;
+    let byte = read_cell(processor.bus, operand.address)?;
+    branch_where_a_is(byte, offset, operand.mode, processor.registers);
     Ok(())
 }
 
 // Branches where A, or X, equals the operand.
 pub fn branch_where_equal<B: Bus>(
-    bus: &mut B,
+    processor: &mut Processor<'_, B>,
     operation: CompareBranch,
     operand: Operand,
-    registers: &mut Registers,
 ) -> Result<(), Fault>
-    ensures { (result, registers.new, B.cells bus.new) ≡ leaves registers.old (perform (branched_where_equal operation operand registers.old) (B.cells bus.old)) }
+    ensures { Performs B.cells (branched_where_equal operation operand) processor.old result processor.new }
 {
     match operation {
-        CompareBranch::Cbeq => compare_operand(bus, operand, registers),
-        CompareBranch::Cbeqa => compare_immediate(bus, registers.a, operand, registers),
-        CompareBranch::Cbeqx => compare_immediate(bus, registers.x, operand, registers),
+        CompareBranch::Cbeq => compare_operand(processor, operand),
+        CompareBranch::Cbeqa => compare_immediate(processor, processor.registers.a, operand),
+        CompareBranch::Cbeqx => compare_immediate(processor, processor.registers.x, operand),
     }
 }

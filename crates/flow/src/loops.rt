@@ -1,69 +1,69 @@
 // DBNZ.
 ghost use Rattle.std.specs.Prelude.{◌≡◌};
-ghost use Rattle.access.specs.Access.{perform};
-ghost use Rattle.operands.specs.Leaves.{leaves};
-ghost use Rattle.flow.specs.Loops.{cell_decremented, counted, decremented};
+ghost use Rattle.operands.specs.Leaves.{Performs};
+ghost use Rattle.flow.specs.Loops.{until_zero, cell_decremented, counted, decremented};
 
 use access::cells::{read_cell, store_cell};
 use access::fault::Fault;
 use bus::traits::Bus;
 use effects::branch::branch_by;
-use operands::address::{Home, Operand, behind_address, home_of};
+use operands::address::{Home, Operand};
+use operands::processor::Processor;
 use state::registers::Registers;
+
+// Branches where something is left.
+fn branch_until_zero(left: u8, offset: u8, registers: &mut Registers)
+    ensures { registers.new ≡ until_zero left offset registers.old }
+{
+    if left != 0 {
+        branch_by(offset, registers);
+    }
+}
 
 // Takes 1 from the byte at an address, and branches where something is left.
 fn decrement_cell<B: Bus>(
-    bus: &mut B,
+    processor: &mut Processor<'_, B>,
     address: u16,
     offset: u8,
-    registers: &mut Registers,
 ) -> Result<(), Fault>
-    ensures { (result, registers.new, B.cells bus.new) ≡ leaves registers.old (perform (cell_decremented address offset registers.old) (B.cells bus.old)) }
+    ensures { Performs B.cells (cell_decremented address offset) processor.old result processor.new }
 {
-    let left = read_cell(bus, address)?.wrapping_sub(1);
-    store_cell(bus, address, left)?;
-    branch_by(left != 0, offset, registers);
+    let left = read_cell(processor.bus, address)?.wrapping_sub(1);
+    store_cell(processor.bus, address, left)?;
+    branch_until_zero(left, offset, processor.registers);
     Ok(())
 }
 
 // Takes 1 from A, X or the byte at an address, and branches where something is left.
 fn decrement<B: Bus>(
-    bus: &mut B,
+    processor: &mut Processor<'_, B>,
     home: Home,
     address: u16,
     offset: u8,
-    registers: &mut Registers,
 ) -> Result<(), Fault>
-    ensures { (result, registers.new, B.cells bus.new) ≡ leaves registers.old (perform (counted home address offset registers.old) (B.cells bus.old)) }
+    ensures { Performs B.cells (counted home address offset) processor.old result processor.new }
 {
     match home {
         Home::Accumulator => {
-            registers.a = registers.a.wrapping_sub(1);
-            branch_by(registers.a != 0, offset, registers);
+            processor.registers.a = processor.registers.a.wrapping_sub(1);
+            branch_until_zero(processor.registers.a, offset, processor.registers);
         }
         Home::Index => {
-            registers.x = registers.x.wrapping_sub(1);
-            branch_by(registers.x != 0, offset, registers);
+            processor.registers.x = processor.registers.x.wrapping_sub(1);
+            branch_until_zero(processor.registers.x, offset, processor.registers);
         }
-        Home::Memory => decrement_cell(bus, address, offset, registers)?,
+        Home::Memory => decrement_cell(processor, address, offset)?,
     }
     Ok(())
 }
 
 // Takes 1 from the operand, and branches where something is left.
 pub fn decrement_and_branch<B: Bus>(
-    bus: &mut B,
+    processor: &mut Processor<'_, B>,
     operand: Operand,
-    registers: &mut Registers,
 ) -> Result<(), Fault>
-    ensures { (result, registers.new, B.cells bus.new) ≡ leaves registers.old (perform (decremented operand registers.old) (B.cells bus.old)) }
+    ensures { Performs B.cells (decremented operand) processor.old result processor.new }
 {
-    let offset = read_cell(bus, behind_address(operand))?;
-    decrement(
-        bus,
-        home_of(operand.mode),
-        operand.address,
-        offset,
-        registers,
-    )
+    let offset = read_cell(processor.bus, operand.behind())?;
+    decrement(processor, operand.home(), operand.address, offset)
 }

@@ -1,5 +1,11 @@
-pub mod Maps
-pub mod Timing
+pub mod Cycles
+pub mod FirstLaws
+pub mod FirstMaps
+pub mod FirstSet
 pub mod Law
+pub mod Lawful
+pub mod Maps
+pub mod Model
 pub mod Row
 pub mod Tables
+pub mod Timing

@@ -1,24 +1,45 @@
--- The rows as they are written down.
-use Rattle.std.specs.Prelude.{ℕ, zero, suc, List, [], ◌∷◌, Some, None, Option}
+-- The pages as they are written down.
+use Rattle.std.specs.Prelude.{◌≡◌, ℕ, zero, suc, List, [], ◌∷◌, Some, None, Option}
+use Rattle.isa.specs.declared.cycles.Cycles.{Cycles}
+use Rattle.isa.specs.declared.model.Model.{Model}
 use Rattle.isa.specs.declared.operation.Operation.{Operation}
 use Rattle.isa.specs.declared.row.Mode.{Mode}
+use Rattle.isa.specs.declared.row.Page.{Page}
+use Rattle.isa.specs.declared.row.Page.TheVariants.{First, Second}
 use Rattle.isa.specs.declared.row.Row.{Row}
+use Rattle.isa.specs.Cycles.{cycles_on}
+use Rattle.isa.specs.Model.{model_table}
 
--- operation, mode, bytes and cycles of a row
-abbrev pub row_of : Option (Operation × Mode × ℕ × ℕ) → Option Row
-row_of None = None
-row_of (Some p) = Some (record { operation = p.0; mode = p.1; bytes = p.2; cycles = p.3 })
+-- a place as it is written down: operation, mode, bytes and cycles, or none
+abbrev pub Written : Type 0
+Written = Option (Operation × Mode × ℕ × Cycles)
 
--- a row as it is written down
-abbrev pub entry_of : Option Row → Option (Operation × Mode × ℕ × ℕ)
-entry_of None = None
-entry_of (Some row) = Some (row.operation, row.mode, row.bytes, row.cycles)
+-- an instruction with the cycles of a core, if the core has it
+abbrev pub row_costing : Operation → Mode → ℕ → Option ℕ → Option Row
+row_costing operation mode bytes None = None
+row_costing operation mode bytes (Some cycles) =
+    Some (record { operation = operation; mode = mode; bytes = bytes; cycles = cycles })
 
--- so many rows of a page from an opcode on, as they are written down
-abbrev pub written_from : (ℕ → Option Row) → ℕ → ℕ → List (Option (Operation × Mode × ℕ × ℕ))
-written_from page opcode zero = []
-written_from page opcode (suc n) = entry_of (page opcode) ∷ written_from page (suc opcode) n
+-- the row that is written down at a place, on a core
+abbrev pub row_on : Model → Written → Option Row
+row_on model None = None
+row_on model (Some p) = row_costing p.0 p.1 p.2 (cycles_on model p.3)
+
+-- the rows that are written down at some places, on a core
+abbrev pub rows_on : Model → List Written → List (Option Row)
+rows_on model [] = []
+rows_on model (place ∷ places) = row_on model place ∷ rows_on model places
+
+-- so many rows of a page from an opcode on
+abbrev pub listed_from : (ℕ → Option Row) → ℕ → ℕ → List (Option Row)
+listed_from page opcode zero = []
+listed_from page opcode (suc n) = page opcode ∷ listed_from page (suc opcode) n
 
 -- the 256 rows of a page
-abbrev pub written_out : (ℕ → Option Row) → List (Option (Operation × Mode × ℕ × ℕ))
-written_out page = written_from page 0 256
+abbrev pub listed : (ℕ → Option Row) → List (Option Row)
+listed page = listed_from page 0 256
+
+-- these are the rows of a core's page, at all 256 places
+abbrev pub RowsOf : Model → Page → List Written → Type 0
+RowsOf model First places = rows_on model places ≡ listed (model_table model First)
+RowsOf model Second places = rows_on model places ≡ listed (model_table model Second)

@@ -2,9 +2,11 @@
 #![tactic(auto)]
 
 pub mod core08;
-pub mod cpu08;
-mod cpu08_rows;
-pub mod hcs08;
-mod hcs08_rows;
+pub mod cycles;
+mod first_page;
+pub mod first_set;
+pub mod model;
 pub mod operation;
+pub mod pages;
 pub mod row;
+mod second_page;

@@ -1,4 +1,4 @@
-// The operations, grouped as the instruction set summaries group them. Names are the mnemonics.
+// The operations, grouped as the opcode maps group them. Names are the mnemonics.
 
 // When a branch is taken.
 #[derive(Clone, Copy)]
@@ -25,6 +25,33 @@ pub enum Condition {
     Ble,
 }
 
+// A bit of a byte, from the lowest.
+#[derive(Clone, Copy)]
+pub enum BitNumber {
+    B0,
+    B1,
+    B2,
+    B3,
+    B4,
+    B5,
+    B6,
+    B7,
+}
+
+// A branch on a bit of a memory byte.
+#[derive(Clone, Copy)]
+pub enum BitBranch {
+    Brset,
+    Brclr,
+}
+
+// A bit of a memory byte, set or cleared.
+#[derive(Clone, Copy)]
+pub enum BitChange {
+    Bset,
+    Bclr,
+}
+
 // A register combined with an operand byte.
 #[derive(Clone, Copy)]
 pub enum RegisterMemory {
@@ -42,7 +69,14 @@ pub enum RegisterMemory {
     Ldx,
 }
 
-// A byte read, changed and put back where it came from.
+// A register stored.
+#[derive(Clone, Copy)]
+pub enum RegisterStore {
+    Sta,
+    Stx,
+}
+
+// A byte read, changed and put back where it came from. TST puts nothing back, CLR reads nothing.
 #[derive(Clone, Copy)]
 pub enum ReadModifyWrite {
     Neg,
@@ -58,11 +92,20 @@ pub enum ReadModifyWrite {
     Clr,
 }
 
+// A branch where A, or X, equals the operand byte.
+#[derive(Clone, Copy)]
+pub enum CompareBranch {
+    Cbeq,
+    Cbeqa,
+    Cbeqx,
+}
+
 // H:X with an operand word.
 #[derive(Clone, Copy)]
 pub enum WordOperation {
     Ldhx,
     Cphx,
+    Sthx,
 }
 
 // A pointer moved by a signed operand byte.
@@ -70,6 +113,32 @@ pub enum WordOperation {
 pub enum Pointer {
     Ais,
     Aix,
+}
+
+// The program goes on elsewhere, with or without a way back.
+#[derive(Clone, Copy)]
+pub enum Jump {
+    Jmp,
+    Jsr,
+    Bsr,
+}
+
+// The way back.
+#[derive(Clone, Copy)]
+pub enum Return {
+    Rts,
+    Rti,
+}
+
+// A register onto the stack, or from it.
+#[derive(Clone, Copy)]
+pub enum StackOperation {
+    Psha,
+    Pula,
+    Pshx,
+    Pulx,
+    Pshh,
+    Pulh,
 }
 
 // Registers and flags alone.
@@ -105,10 +174,23 @@ pub enum Standstill {
 #[derive(Clone, Copy)]
 pub enum Operation {
     Branch(Condition),
+    BranchOnBit(BitBranch, BitNumber),
+    ChangeBit(BitChange, BitNumber),
     Combine(RegisterMemory),
+    Store(RegisterStore),
     Modify(ReadModifyWrite),
+    CompareAndBranch(CompareBranch),
+    // DBNZ
+    DecrementAndBranch,
+    // MOV
+    Move,
     Word(WordOperation),
     Displace(Pointer),
+    Transfer(Jump),
+    GoBack(Return),
+    // SWI
+    SoftwareInterrupt,
+    Stack(StackOperation),
     Register(RegisterOnly),
     Rest(Standstill),
 }

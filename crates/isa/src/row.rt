@@ -1,22 +1,50 @@
 // One row of a core's table.
 ghost use Rattle.std.specs.Prelude.{◌≡◌};
-ghost use Rattle.isa.specs.Row.{row_of};
+ghost use Rattle.isa.specs.Row.{row_on};
 
+use crate::cycles::Cycles;
+use crate::model::Model;
 use crate::operation::Operation;
 
 // How an instruction finds its operand.
 #[derive(Clone, Copy)]
 pub enum Mode {
-    // none, or the registers that the operation names
+    // INH: none, or the registers that the operation names
     Inherent,
-    // the accumulator
+    // INH: the accumulator
     InherentA,
-    // the index register's low byte
+    // INH: the index register's low byte
     InherentX,
-    // the bytes after the opcode
+    // IMM: the bytes after the opcode
     Immediate,
-    // a signed offset from the next instruction
+    // DIR: the memory byte at an address below 256
+    Direct,
+    // EXT: the memory byte at an address
+    Extended,
+    // IX2: at H:X plus a word
+    Indexed2,
+    // IX1: at H:X plus a byte
+    Indexed1,
+    // IX: at H:X
+    Indexed,
+    // SP2: at SP plus a word
+    Stack2,
+    // SP1: at SP plus a byte
+    Stack1,
+    // REL: a signed offset from the next instruction
     Relative,
+    // IX1+: at H:X plus a byte, and H:X goes on by 1
+    Indexed1Plus,
+    // IX+: at H:X, and H:X goes on by 1
+    IndexedPlus,
+    // DD: from a direct address to a direct address
+    DirectDirect,
+    // DIX+: from a direct address to H:X, which goes on by 1
+    DirectIndexedPlus,
+    // IMD: the byte after the opcode to a direct address
+    ImmediateDirect,
+    // IX+D: from H:X, which goes on by 1, to a direct address
+    IndexedPlusDirect,
 }
 
 // The page of an opcode: the second one follows `$9E`.
@@ -26,10 +54,10 @@ pub enum Page {
     Second,
 }
 
-// A place of a table as it is written down: operation, mode, bytes and cycles, or none.
-pub type Entry = Option<(Operation, Mode, u8, u8)>;
+// A place of a page as it is written down: operation, mode, bytes and cycles, or none.
+pub type Place = Option<(Operation, Mode, u8, Cycles)>;
 
-// An instruction: what it does, how it finds its operand, its length in bytes, and what it costs.
+// An instruction on a core: what it does, how it finds its operand, its length in bytes, and what it costs.
 #[derive(Clone, Copy)]
 pub struct Row {
     pub operation: Operation,
@@ -38,11 +66,12 @@ pub struct Row {
     pub cycles: u8,
 }
 
-// The row that a place of a table holds.
-pub fn row_of(entry: Entry) -> Option<Row>
-    ensures { result ≡ row_of entry }
+// The row that a place holds on a core.
+pub(crate) fn row_on(model: Model, place: Place) -> Option<Row>
+    ensures { result ≡ row_on model place }
 {
-    let (operation, mode, bytes, cycles) = entry?;
+    let (operation, mode, bytes, cycles) = place?;
+    let cycles = cycles.on(model)?;
     Some(Row {
         operation,
         mode,

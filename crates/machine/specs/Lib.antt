@@ -1,10 +1,4 @@
-pub mod Access
-pub mod Branch
-pub mod Combine
+pub mod Act
 pub mod Decode
 pub mod Execute
-pub mod Lines
-pub mod Modify
-pub mod RegisterOnly
-pub mod Registers
 pub mod Request

@@ -1,12 +1,13 @@
 // From the opcode to its row.
 ghost use Rattle.std.specs.Prelude.{◌≡◌};
-ghost use Rattle.machine.specs.Access.{perform};
-ghost use Rattle.machine.specs.Decode.{decoded, row_found, operand_byte};
+ghost use Rattle.access.specs.Access.{perform};
+ghost use Rattle.machine.specs.Decode.{decoded, row_found};
 
-use crate::access::{Fault, read_cell};
+use access::cells::read_cell;
+use access::fault::Fault;
 use bus::traits::Bus;
 use isa::core08::Core;
-use isa::row::{Mode, Page, Row};
+use isa::row::{Page, Row};
 
 // The byte that leads to the second opcode page.
 const PREFIX: u8 = 0x9E;
@@ -18,6 +19,15 @@ pub(crate) struct Decoded {
     pub operand: u16,
 }
 
+impl Decoded {
+    // What the instruction costs.
+    pub(crate) fn cycles(self) -> u8
+        ensures { result ≡ self.row.cycles }
+    {
+        self.row.cycles
+    }
+}
+
 fn found(row: Option<Row>, operand: u16) -> Result<Decoded, Fault>
     ensures { result ≡ row_found row operand }
 {
@@ -27,25 +37,21 @@ fn found(row: Option<Row>, operand: u16) -> Result<Decoded, Fault>
     }
 }
 
-// Reads the opcode, behind its prefix if it has one, and finds its row.
+// Reads the opcode, behind its prefix if it has one, and finds its row. No core has a row at the prefix itself, so the first page is
+// asked first.
 pub(crate) fn decode<B: Bus, C: Core>(bus: &mut B, core: &C, pc: u16) -> Result<Decoded, Fault>
     ensures { (result, B.cells bus.new) ≡ perform (decoded (C.table core.now) pc) (B.cells bus.old) }
 {
     let opcode = read_cell(bus, pc)?;
-    if opcode == PREFIX {
-        let second = read_cell(bus, pc.wrapping_add(1))?;
-        found(core.row(Page::Second, second), pc.wrapping_add(2))
-    } else {
-        found(core.row(Page::First, opcode), pc.wrapping_add(1))
-    }
-}
-
-// The operand byte of an instruction that takes one.
-pub(crate) fn operand_byte<B: Bus>(bus: &mut B, mode: Mode, operand: u16) -> Result<u8, Fault>
-    ensures { (result, B.cells bus.new) ≡ perform (operand_byte mode operand) (B.cells bus.old) }
-{
-    match mode {
-        Mode::Immediate | Mode::Relative => read_cell(bus, operand),
-        Mode::Inherent | Mode::InherentA | Mode::InherentX => Err(Fault::NoInstruction),
+    match core.row(Page::First, opcode) {
+        Some(row) => Ok(Decoded {
+            row,
+            operand: pc.wrapping_add(1),
+        }),
+        None if opcode == PREFIX => {
+            let second = read_cell(bus, pc.wrapping_add(1))?;
+            found(core.row(Page::Second, second), pc.wrapping_add(2))
+        }
+        None => Err(Fault::NoInstruction),
     }
 }

@@ -1,14 +1,8 @@
 // What does one instruction do?
 #![tactic(auto)]
 
-pub mod access;
-mod branch;
-mod combine;
+mod act;
 mod decode;
 pub mod execute;
-pub mod lines;
-mod modify;
-mod register_only;
-pub mod registers;
+mod operate;
 pub mod request;
-pub mod standing;

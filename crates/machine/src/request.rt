@@ -1,79 +1,35 @@
 // Entering an interrupt request.
 ghost use Rattle.std.specs.Prelude.{◌≡◌};
-ghost use Rattle.machine.specs.Access.{perform};
-ghost use Rattle.machine.specs.Request.{entered, vectored, pushed_frame, pushed_word, pushed_operands};
+ghost use Rattle.access.specs.Access.{perform};
+ghost use Rattle.machine.specs.Execute.{executes};
+ghost use Rattle.machine.specs.Request.{entered};
 
-use crate::access::{Fault, read_word, store_cell};
-use crate::execute::Executed;
-use crate::lines::served_vector;
-use crate::registers::Registers;
-use crate::standing::Standing;
-use alu::flags::Flags;
-use alu::words::{high_byte, low_byte};
+use access::fault::Fault;
 use bus::traits::Bus;
+use calls::interrupt::interrupt;
 use isa::core08::Core;
+use operands::processor::Processor;
+use state::lines::served_vector;
+use state::live::Live;
+use state::standing::Standing;
 
-// Pushes a word, its low byte first.
-pub(crate) fn push_word<B: Bus>(bus: &mut B, sp: u16, word: u16) -> Result<(), Fault>
-    ensures { (result, B.cells bus.new) ≡ perform (pushed_word sp word) (B.cells bus.old) }
+// The machine runs, at the cycles of entry.
+fn start<C: Core>(core: &C, standing: &mut Standing) -> u8
+    ensures cycles { result ≡ C.entry_figure core.now }
+    ensures standing { standing.new ≡ Standing.Running }
 {
-    store_cell(bus, sp, low_byte(word))?;
-    store_cell(bus, sp.wrapping_sub(1), high_byte(word))
+    *standing = Standing::Running;
+    core.entry_cycles()
 }
 
-// Pushes X, A and the condition codes.
-fn push_operands<B: Bus>(bus: &mut B, sp: u16, registers: Registers) -> Result<(), Fault>
-    ensures { (result, B.cells bus.new) ≡ perform (pushed_operands sp registers) (B.cells bus.old) }
+// Enters the request of the lowest raised line, which stays raised, and answers the cycles of entry.
+pub fn enter<B: Bus, C: Core>(bus: &mut B, core: &C, live: &mut Live) -> Result<u8, Fault>
+    ensures { (result, live.new, B.cells bus.new) ≡ executes live.old (perform (entered (C.entry_figure core.now) live.old) (B.cells bus.old)) }
 {
-    store_cell(bus, sp, registers.x)?;
-    store_cell(bus, sp.wrapping_sub(1), registers.a)?;
-    store_cell(bus, sp.wrapping_sub(2), registers.flags.to_byte())
-}
-
-// Pushes the program counter, X, A and the condition codes.
-pub(crate) fn push_frame<B: Bus>(bus: &mut B, registers: Registers) -> Result<(), Fault>
-    ensures { (result, B.cells bus.new) ≡ perform (pushed_frame registers) (B.cells bus.old) }
-{
-    push_word(bus, registers.sp, registers.pc)?;
-    push_operands(bus, registers.sp.wrapping_sub(2), registers)
-}
-
-// Goes on at the vector of the lowest raised line, with I set and the frame on the stack.
-fn go_to_vector<B: Bus, C: Core>(
-    bus: &mut B,
-    core: &C,
-    registers: Registers,
-    lines: u32,
-) -> Result<Executed, Fault>
-    ensures { (result, B.cells bus.new) ≡ perform (vectored (C.entry_figure core.now) registers lines) (B.cells bus.old) }
-{
-    let pc = read_word(bus, served_vector(lines))?;
-    let flags = Flags {
-        i: true,
-        ..registers.flags
+    let mut processor = Processor {
+        bus,
+        registers: &mut live.registers,
     };
-    let registers = Registers {
-        pc,
-        sp: registers.sp.wrapping_sub(5),
-        flags,
-        ..registers
-    };
-    Ok(Executed {
-        registers,
-        standing: Standing::Running,
-        cycles: core.entry_cycles(),
-    })
-}
-
-// Enters the request of the lowest raised line. The line stays raised.
-pub fn enter<B: Bus, C: Core>(
-    bus: &mut B,
-    core: &C,
-    registers: Registers,
-    lines: u32,
-) -> Result<Executed, Fault>
-    ensures { (result, B.cells bus.new) ≡ perform (entered (C.entry_figure core.now) registers lines) (B.cells bus.old) }
-{
-    push_frame(bus, registers)?;
-    go_to_vector(bus, core, registers, lines)
+    interrupt(&mut processor, served_vector(live.lines))?;
+    Ok(start(core, &mut live.standing))
 }

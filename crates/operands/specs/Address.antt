@@ -1,8 +1,8 @@
 -- The addressing modes: from the operand bytes to the operand's address.
 use Rattle.std.specs.Prelude.{ℕ, zero, suc}
 use Rattle.alu.specs.Addresses.{after, displaced_by}
-use Rattle.isa_whole.specs.declared.row.Mode.{Mode}
-use Rattle.isa_whole.specs.declared.row.Mode.TheVariants.{Inherent, InherentA, InherentX, Immediate, Direct, Extended, Indexed2, Indexed1, Indexed, Stack2, Stack1, Relative, Indexed1Plus, IndexedPlus, DirectDirect, DirectIndexedPlus, ImmediateDirect, IndexedPlusDirect}
+use Rattle.isa.specs.declared.row.Mode.{Mode}
+use Rattle.isa.specs.declared.row.Mode.TheVariants.{Inherent, InherentA, InherentX, Immediate, Direct, Extended, Indexed2, Indexed1, Indexed, Stack2, Stack1, Relative, Indexed1Plus, IndexedPlus, DirectDirect, DirectIndexedPlus, ImmediateDirect, IndexedPlusDirect}
 use Rattle.state.specs.declared.registers.Registers.{Registers}
 use Rattle.state.specs.Registers.{hx}
 use Rattle.access.specs.Access.{Access, done, read, ◌>>=◌}

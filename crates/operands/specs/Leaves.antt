@@ -1,9 +1,19 @@
 -- What an instruction leaves of the registers.
-use Rattle.std.specs.Prelude.{Ok, Err, Result}
+use Rattle.std.specs.Prelude.{◌≡◌, Ok, Err, Result}
 use Rattle.bus.specs.Cell.{Cells}
 use Rattle.access.specs.declared.fault.Fault.{Fault}
+use Rattle.access.specs.Access.{Access, perform}
+use Rattle.state.specs.declared.registers.Registers.{Registers}
+use Rattle.operands.specs.declared.processor.Processor.{Processor}
 
 -- the registers become what the accesses answer; a fault leaves them as they were
 abbrev pub leaves : {X : Type 0} → X → Result X Fault × Cells → Result Unit Fault × X × Cells
 leaves old (Ok new, m) = (Ok tt, new, m)
 leaves old (Err fault, m) = (Err fault, old, m)
+
+-- a call that carries out the accesses that the registers ask for: it leaves their answer behind the processor's own references
+abbrev pub Performs : {B : Type 0} → (B → Cells) → (Registers → Access Registers) → Processor B → Result Unit Fault → Processor B → Type 0
+Performs cells accesses old result new =
+    (new.bus.ghost_name ≡ old.bus.ghost_name)
+    × (new.registers.ghost_name ≡ old.registers.ghost_name)
+    × ((result, new.registers.now, cells new.bus.now) ≡ leaves old.registers.now (perform (accesses old.registers.now) (cells old.bus.now)))

@@ -8,7 +8,7 @@ use access::fault::Fault;
 use access::words::read_word;
 use alu::addresses::displaced;
 use bus::traits::Bus;
-use isa_whole::row::Mode;
+use isa::row::Mode;
 use state::registers::Registers;
 
 // An operand, once it was found: the mode, where the operand bytes begin, and the operand's address.
@@ -26,6 +26,36 @@ pub enum Home {
     // the index register's low byte
     Index,
     Memory,
+}
+
+impl Operand {
+    // Where the byte stands that follows the operand's address.
+    pub fn behind(self) -> u16
+        ensures { result ≡ behind self }
+    {
+        match self.mode {
+            Mode::Extended | Mode::Indexed2 | Mode::Stack2 => self.bytes.wrapping_add(2),
+            Mode::Direct
+            | Mode::DirectDirect
+            | Mode::DirectIndexedPlus
+            | Mode::Indexed1
+            | Mode::Indexed1Plus
+            | Mode::Stack1
+            | Mode::Relative => self.bytes.wrapping_add(1),
+            _ => self.bytes,
+        }
+    }
+
+    // Where the operand lies, by its mode.
+    pub fn home(self) -> Home
+        ensures { result ≡ home_of self.mode }
+    {
+        match self.mode {
+            Mode::InherentA => Home::Accumulator,
+            Mode::InherentX => Home::Index,
+            _ => Home::Memory,
+        }
+    }
 }
 
 // The address of the operand, by the operand bytes that begin at `at`. The program counter is at the next instruction.
@@ -55,33 +85,5 @@ pub fn operand_address<B: Bus>(
         Mode::Stack2 => Ok(registers.sp.wrapping_add(read_word(bus, at)?)),
         Mode::Stack1 => Ok(registers.sp.wrapping_add(u16::from(read_cell(bus, at)?))),
         Mode::Relative => Ok(displaced(registers.pc, read_cell(bus, at)?)),
-    }
-}
-
-// Where the byte stands that follows the operand's address.
-pub fn behind_address(operand: Operand) -> u16
-    ensures { result ≡ behind operand }
-{
-    match operand.mode {
-        Mode::Extended | Mode::Indexed2 | Mode::Stack2 => operand.bytes.wrapping_add(2),
-        Mode::Direct
-        | Mode::DirectDirect
-        | Mode::DirectIndexedPlus
-        | Mode::Indexed1
-        | Mode::Indexed1Plus
-        | Mode::Stack1
-        | Mode::Relative => operand.bytes.wrapping_add(1),
-        _ => operand.bytes,
-    }
-}
-
-// Where the operand of a mode lies.
-pub fn home_of(mode: Mode) -> Home
-    ensures { result ≡ home_of mode }
-{
-    match mode {
-        Mode::InherentA => Home::Accumulator,
-        Mode::InherentX => Home::Index,
-        _ => Home::Memory,
     }
 }

@@ -1,4 +1,5 @@
-// Where is the operand?
+// What does an instruction work on, and where is its operand?
 #![tactic(auto)]
 
 pub mod address;
+pub mod processor;

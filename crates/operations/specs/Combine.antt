@@ -1,7 +1,7 @@
 -- A register with an operand byte.
 use Rattle.std.specs.Prelude.{ℕ}
-use Rattle.isa_whole.specs.declared.operation.Pointer.{Pointer}
-use Rattle.isa_whole.specs.declared.operation.RegisterMemory.{RegisterMemory}
+use Rattle.isa.specs.declared.operation.Pointer.{Pointer}
+use Rattle.isa.specs.declared.operation.RegisterMemory.{RegisterMemory}
 use Rattle.state.specs.declared.registers.Registers.{Registers}
 use Rattle.access.specs.Access.{Access, done, read}
 use Rattle.effects.specs.Combine.{combined}

@@ -1,7 +1,7 @@
 -- STA and STX.
 use Rattle.std.specs.Prelude.{ℕ}
-use Rattle.isa_whole.specs.declared.operation.RegisterStore.{RegisterStore}
-use Rattle.isa_whole.specs.declared.operation.RegisterStore.TheVariants.{Sta, Stx}
+use Rattle.isa.specs.declared.operation.RegisterStore.{RegisterStore}
+use Rattle.isa.specs.declared.operation.RegisterStore.TheVariants.{Sta, Stx}
 use Rattle.state.specs.declared.registers.Registers.{Registers}
 use Rattle.state.specs.Registers.{tested}
 use Rattle.access.specs.Access.{Access, done, store}

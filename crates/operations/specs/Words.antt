@@ -1,7 +1,7 @@
 -- LDHX, CPHX and STHX.
 use Rattle.std.specs.Prelude.{ℕ}
-use Rattle.isa_whole.specs.declared.operation.WordOperation.{WordOperation}
-use Rattle.isa_whole.specs.declared.operation.WordOperation.TheVariants.{Ldhx, Cphx, Sthx}
+use Rattle.isa.specs.declared.operation.WordOperation.{WordOperation}
+use Rattle.isa.specs.declared.operation.WordOperation.TheVariants.{Ldhx, Cphx, Sthx}
 use Rattle.state.specs.declared.registers.Registers.{Registers}
 use Rattle.state.specs.Registers.{hx}
 use Rattle.access.specs.Access.{Access, done, ◌>>=◌}

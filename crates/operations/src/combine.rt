@@ -1,7 +1,5 @@
 // A register with an operand byte.
-ghost use Rattle.std.specs.Prelude.{◌≡◌};
-ghost use Rattle.access.specs.Access.{perform};
-ghost use Rattle.operands.specs.Leaves.{leaves};
+ghost use Rattle.operands.specs.Leaves.{Performs};
 ghost use Rattle.operations.specs.Combine.{operand_combined, pointer_displaced};
 
 use access::cells::read_cell;
@@ -9,33 +7,31 @@ use access::fault::Fault;
 use bus::traits::Bus;
 use effects::combine::combine;
 use effects::pointers::displace;
-use isa_whole::operation::{Pointer, RegisterMemory};
-use state::registers::Registers;
+use isa::operation::{Pointer, RegisterMemory};
+use operands::processor::Processor;
 
 // SUB, CMP, SBC, CPX, AND, BIT, LDA, EOR, ADC, ORA, ADD and LDX.
 pub fn combine_operand<B: Bus>(
-    bus: &mut B,
+    processor: &mut Processor<'_, B>,
     operation: RegisterMemory,
     address: u16,
-    registers: &mut Registers,
 ) -> Result<(), Fault>
-    ensures { (result, registers.new, B.cells bus.new) ≡ leaves registers.old (perform (operand_combined operation address registers.old) (B.cells bus.old)) }
+    ensures { Performs B.cells (operand_combined operation address) processor.old result processor.new }
 {
-    let byte = read_cell(bus, address)?;
-    combine(operation, byte, registers);
+    let byte = read_cell(processor.bus, address)?;
+    combine(operation, byte, processor.registers);
     Ok(())
 }
 
-// AIS and AIX.
+// AIS and AIX. It reads its byte as the function above: a closure for the one line that differs would need three clauses.
 pub fn displace_pointer<B: Bus>(
-    bus: &mut B,
+    processor: &mut Processor<'_, B>,
     pointer: Pointer,
     address: u16,
-    registers: &mut Registers,
 ) -> Result<(), Fault>
-    ensures { (result, registers.new, B.cells bus.new) ≡ leaves registers.old (perform (pointer_displaced pointer address registers.old) (B.cells bus.old)) }
+    ensures { Performs B.cells (pointer_displaced pointer address) processor.old result processor.new }
 {
-    let offset = read_cell(bus, address)?;
-    displace(pointer, offset, registers);
+    let offset = read_cell(processor.bus, address)?;
+    displace(pointer, offset, processor.registers);
     Ok(())
 }

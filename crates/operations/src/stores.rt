@@ -1,13 +1,13 @@
 // STA and STX.
 ghost use Rattle.std.specs.Prelude.{◌≡◌};
-ghost use Rattle.access.specs.Access.{perform};
-ghost use Rattle.operands.specs.Leaves.{leaves};
+ghost use Rattle.operands.specs.Leaves.{Performs};
 ghost use Rattle.operations.specs.Stores.{stored_byte, register_stored};
 
 use access::cells::store_cell;
 use access::fault::Fault;
 use bus::traits::Bus;
-use isa_whole::operation::RegisterStore;
+use isa::operation::RegisterStore;
+use operands::processor::Processor;
 use state::registers::Registers;
 
 // The byte that is stored.
@@ -22,15 +22,14 @@ fn stored_byte(operation: RegisterStore, registers: &Registers) -> u8
 
 // Stores the register at the operand's address, and tests it.
 pub fn store_register<B: Bus>(
-    bus: &mut B,
+    processor: &mut Processor<'_, B>,
     operation: RegisterStore,
     address: u16,
-    registers: &mut Registers,
 ) -> Result<(), Fault>
-    ensures { (result, registers.new, B.cells bus.new) ≡ leaves registers.old (perform (register_stored operation address registers.old) (B.cells bus.old)) }
+    ensures { Performs B.cells (register_stored operation address) processor.old result processor.new }
 {
-    let byte = stored_byte(operation, registers);
-    store_cell(bus, address, byte)?;
-    registers.test(byte);
+    let byte = stored_byte(operation, processor.registers);
+    store_cell(processor.bus, address, byte)?;
+    processor.registers.test(byte);
     Ok(())
 }

@@ -1,7 +1,7 @@
 -- BSET and BCLR.
 use Rattle.std.specs.Prelude.{ℕ}
-use Rattle.isa_whole.specs.declared.operation.BitChange.{BitChange}
-use Rattle.isa_whole.specs.declared.operation.BitNumber.{BitNumber}
+use Rattle.isa.specs.declared.operation.BitChange.{BitChange}
+use Rattle.isa.specs.declared.operation.BitNumber.{BitNumber}
 use Rattle.access.specs.Access.{Access, done, read, store}
 use Rattle.effects.specs.Bits.{bit_changed}
 

@@ -1,8 +1,8 @@
 -- A byte read, changed and put back.
 use Rattle.std.specs.Prelude.{ℕ}
 use Rattle.alu.specs.declared.flags.Flags.{Flags}
-use Rattle.isa_whole.specs.declared.operation.ReadModifyWrite.{ReadModifyWrite}
-use Rattle.isa_whole.specs.declared.operation.ReadModifyWrite.TheVariants.{Neg, Com, Lsr, Ror, Asr, Lsl, Rol, Dec, Inc, Tst, Clr}
+use Rattle.isa.specs.declared.operation.ReadModifyWrite.{ReadModifyWrite}
+use Rattle.isa.specs.declared.operation.ReadModifyWrite.TheVariants.{Neg, Com, Lsr, Ror, Asr, Lsl, Rol, Dec, Inc, Tst, Clr}
 use Rattle.state.specs.declared.registers.Registers.{Registers}
 use Rattle.state.specs.Registers.{with_a, with_x, with_flags}
 use Rattle.access.specs.Access.{Access, done, read, store, ◌>>=◌}

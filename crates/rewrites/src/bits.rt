@@ -7,7 +7,7 @@ use access::cells::{read_cell, store_cell};
 use access::fault::Fault;
 use bus::traits::Bus;
 use effects::bits::change_bit;
-use isa_whole::operation::{BitChange, BitNumber};
+use isa::operation::{BitChange, BitNumber};
 
 // Sets or clears a bit of the operand.
 pub fn change_memory_bit<B: Bus>(

@@ -1,7 +1,7 @@
 // A byte read, changed and put back.
 ghost use Rattle.std.specs.Prelude.{◌≡◌};
 ghost use Rattle.access.specs.Access.{perform};
-ghost use Rattle.operands.specs.Leaves.{leaves};
+ghost use Rattle.operands.specs.Leaves.{Performs};
 ghost use Rattle.rewrites.specs.Modify.{cell_read, cell_stored, byte_read, byte_put, byte_put_back, operand_modified};
 ghost use Rattle.operands.specs.Address.{home_of};
 
@@ -10,8 +10,9 @@ use access::fault::Fault;
 use alu::flags::Flags;
 use bus::traits::Bus;
 use effects::modify::modify;
-use isa_whole::operation::ReadModifyWrite;
-use operands::address::{Home, Operand, home_of};
+use isa::operation::ReadModifyWrite;
+use operands::address::{Home, Operand};
+use operands::processor::Processor;
 use state::registers::Registers;
 
 // The byte in memory that is changed. CLR reads nothing.
@@ -48,7 +49,7 @@ fn read_byte<B: Bus>(
 ) -> Result<u8, Fault>
     ensures { (result, B.cells bus.new) ≡ perform (byte_read operation (home_of operand.mode) operand.address registers.now) (B.cells bus.old) }
 {
-    match home_of(operand.mode) {
+    match operand.home() {
         Home::Accumulator => Ok(registers.a),
         Home::Index => Ok(registers.x),
         Home::Memory => read_operand(bus, operation, operand.address),
@@ -57,48 +58,45 @@ fn read_byte<B: Bus>(
 
 // Puts the byte back where it came from.
 fn put_byte<B: Bus>(
-    bus: &mut B,
+    processor: &mut Processor<'_, B>,
     operation: ReadModifyWrite,
     operand: Operand,
     byte: u8,
-    registers: &mut Registers,
 ) -> Result<(), Fault>
-    ensures { (result, registers.new, B.cells bus.new) ≡ leaves registers.old (perform (byte_put operation (home_of operand.mode) operand.address byte registers.old) (B.cells bus.old)) }
+    ensures { Performs B.cells (byte_put operation (home_of operand.mode) operand.address byte) processor.old result processor.new }
 {
-    match home_of(operand.mode) {
-        Home::Accumulator => registers.a = byte,
-        Home::Index => registers.x = byte,
-        Home::Memory => store_operand(bus, operation, operand.address, byte)?,
+    match operand.home() {
+        Home::Accumulator => processor.registers.a = byte,
+        Home::Index => processor.registers.x = byte,
+        Home::Memory => store_operand(processor.bus, operation, operand.address, byte)?,
     }
     Ok(())
 }
 
 // Puts back what an operation made of the byte, and keeps its flags.
 fn put_back<B: Bus>(
-    bus: &mut B,
+    processor: &mut Processor<'_, B>,
     operation: ReadModifyWrite,
     operand: Operand,
     outcome: (u8, Flags),
-    registers: &mut Registers,
 ) -> Result<(), Fault>
-    ensures { (result, registers.new, B.cells bus.new) ≡ leaves registers.old (perform (byte_put_back operation operand outcome registers.old) (B.cells bus.old)) }
+    ensures { Performs B.cells (byte_put_back operation operand outcome) processor.old result processor.new }
 {
     let (byte, flags) = outcome;
-    put_byte(bus, operation, operand, byte, registers)?;
-    registers.flags = flags;
+    put_byte(processor, operation, operand, byte)?;
+    processor.registers.flags = flags;
     Ok(())
 }
 
 // Changes A, X or the operand in memory.
 pub fn modify_operand<B: Bus>(
-    bus: &mut B,
+    processor: &mut Processor<'_, B>,
     operation: ReadModifyWrite,
     operand: Operand,
-    registers: &mut Registers,
 ) -> Result<(), Fault>
-    ensures { (result, registers.new, B.cells bus.new) ≡ leaves registers.old (perform (operand_modified operation operand registers.old) (B.cells bus.old)) }
+    ensures { Performs B.cells (operand_modified operation operand) processor.old result processor.new }
 {
-    let byte = read_byte(bus, operation, operand, registers)?;
-    let outcome = modify(operation, byte, registers.flags);
-    put_back(bus, operation, operand, outcome, registers)
+    let byte = read_byte(processor.bus, operation, operand, processor.registers)?;
+    let outcome = modify(operation, byte, processor.registers.flags);
+    put_back(processor, operation, operand, outcome)
 }

@@ -1,2 +1,3 @@
 pub mod Printing
+pub mod Within
 pub mod Zeroed

@@ -1,7 +1,7 @@
 -- Worked examples of the definitions.
 use Rattle.std.specs.Prelude.{◌≡◌, ℕ, List, [], ◌∷◌, ◌++◌, codes}
 use Rattle.alu.specs.Examples.{ArithmeticExamples}
-use Rattle.machine.specs.RegisterOnly.{stack_reset}
+use Rattle.effects.specs.RegisterOnly.{stack_reset}
 use Rattle.srecord.specs.Examples.{RecordExamples}
 use Rattle.session.specs.Course.{course_prints}
 

@@ -1,21 +1,21 @@
 // The session of the program `course`: from its input to all that it prints.
 ghost use Rattle.std.specs.Prelude.{◌≡◌, ◌≤◌, length, take, IfOk};
+ghost use Rattle.std.specs.String.{string_bytes};
 ghost use Rattle.bus.specs.Open.{open_cells};
 ghost use Rattle.console.specs.Lines.{lines_of};
 ghost use Rattle.session.specs.Course.{course_prints, lines_print, refused_start, session_prints, start, zeroed};
-ghost use Rattle.session.specs.Phase.{core_in, shown};
+ghost use Rattle.session.specs.Phase.{shown};
 
 use crate::declined::Declined;
+use crate::line::Line;
 use crate::phase::Phase;
-use crate::rows::blank_row;
+use crate::rows::{blank_row, print_row};
 use board::board::Board;
 use bus::open::OpenMemory;
-use console::first::{CoreName, core_name};
-use console::lines::next_line;
-use console::row::push_row;
+use console::first::core_name;
+use console::lines::Lines;
 use isa::core08::Core;
-use isa::cpu08::Cpu08;
-use isa::hcs08::Hcs08;
+use isa::first_set::FirstSet;
 use std::alloc::{AllocError, Global};
 
 // Input past this many bytes is never looked at.
@@ -25,11 +25,11 @@ pub const INPUT_LIMIT: usize = 32_768;
 const MEMORY_BYTES: usize = 65_536;
 
 // A first line that names no core is all that is answered.
-fn refuse_start(heap: Global) -> Result<Vec<u8>, AllocError>
-    ensures { IfOk result (λ text. text.items ≡ refused_start) }
+fn refuse_start(heap: Global) -> Result<String, AllocError>
+    ensures { IfOk result (λ text. string_bytes text ≡ refused_start) }
 {
-    let mut text = Vec::new(heap);
-    push_row(&mut text, &blank_row(1, Declined::NotUnderstood))?;
+    let mut text = String::new(heap);
+    print_row(&mut text, Some(blank_row(1, Declined::NotUnderstood)))?;
     Ok(text)
 }
 
@@ -37,13 +37,12 @@ fn refuse_start(heap: Global) -> Result<Vec<u8>, AllocError>
 fn zeroed_memory(heap: Global) -> Result<OpenMemory, AllocError>
     ensures { IfOk result (λ m. open_cells m.bytes.items ≡ zeroed) }
 {
-    Ok(OpenMemory::new(vec![in heap; 0u8; MEMORY_BYTES]?))
+    Ok(OpenMemory::from(vec![in heap; 0u8; MEMORY_BYTES]?))
 }
 
 // A loading board over zeroed open memory, at clock 0.
 fn first_phase<C: Core + Drop>(heap: Global, core: C) -> Result<Phase<OpenMemory, C>, AllocError>
-    ensures shown { IfOk result (λ p. shown (λ m. open_cells m.bytes.items) p ≡ start) }
-    ensures core { IfOk result (λ p. core_in p ≡ core) }
+    ensures { IfOk result (λ p. shown (λ m. open_cells m.bytes.items) p ≡ start core) }
 {
     let memory = zeroed_memory(heap)?;
     match Board::make(memory, core, 0) {
@@ -53,52 +52,48 @@ fn first_phase<C: Core + Drop>(heap: Global, core: C) -> Result<Phase<OpenMemory
 }
 
 // Takes the lines after the first one.
-fn session<C: Core + Drop>(heap: Global, core: C, lines: &[u8]) -> Result<Vec<u8>, AllocError>
-    requires { length lines.now ≤ 32768 }
-    ensures { IfOk result (λ text. text.items ≡ session_prints (C.table core) (C.entry_figure core) (lines_of lines.now)) }
+fn session<C: Core + Drop>(heap: Global, core: C, lines: Lines<'_>) -> Result<String, AllocError>
+    requires { length (lines_of lines.0.now) ≤ 32768 }
+    ensures { IfOk result (λ text. string_bytes text ≡ session_prints C.table C.entry_figure core (lines_of lines.entry.0.now)) }
 {
-    let mut text = Vec::new(heap);
+    let mut text = String::new(heap);
     let mut phase = first_phase(heap, core)?;
-    let mut number = 2;
-    let mut left = lines;
-    while let Some((line, rest)) = next_line(left) {
-        phase = phase.take_line(line, number, &mut text)?;
-        number += 1;
-        left = rest;
+    for (number, line) in (2..).zip(lines) {
+        let (next, row) = phase.take_line(Line { number, text: line });
+        phase = next;
+        print_row(&mut text, row)?;
     }
     Ok(text)
 }
 
 // Takes the first line, and on the core that it names the others.
-fn take_lines(heap: Global, text: &[u8]) -> Result<Vec<u8>, AllocError>
+#[tactic(auto, using(crate::proofs::Within::lines_within))]
+fn take_lines(heap: Global, text: &[u8]) -> Result<String, AllocError>
     requires { length text.now ≤ 32768 }
-    ensures { IfOk result (λ printed. printed.items ≡ lines_print (lines_of text.now)) }
+    ensures { IfOk result (λ printed. string_bytes printed ≡ lines_print (lines_of text.now)) }
 {
-    let Some((first, lines)) = next_line(text) else {
-        return Ok(Vec::new(heap));
+    let mut lines = Lines(text);
+    let Some(first) = lines.next() else {
+        return Ok(String::new(heap));
     };
     match core_name(first) {
-        Some(CoreName::Cpu08) => session(heap, Cpu08, lines),
-        Some(CoreName::Hcs08) => session(heap, Hcs08, lines),
+        Some(model) => session(heap, FirstSet(model), lines),
         None => refuse_start(heap),
     }
 }
 
 // The part of the input that is looked at.
+#[tactic(auto, using(std::proofs::lemmas::List::take_min))]
 fn looked_at(input: &[u8]) -> &[u8]
     ensures part { result.now ≡ take 32768 input.now }
     ensures bound { length result.now ≤ 32768 }
 {
-    if input.len() > INPUT_LIMIT {
-        &input[0..INPUT_LIMIT]
-    } else {
-        input
-    }
+    &input[..INPUT_LIMIT.min(input.len())]
 }
 
 // All that a session prints for its input.
-pub fn course(heap: Global, input: &[u8]) -> Result<Vec<u8>, AllocError>
-    ensures { IfOk result (λ text. text.items ≡ course_prints input.now) }
+pub fn course(heap: Global, input: &[u8]) -> Result<String, AllocError>
+    ensures { IfOk result (λ text. string_bytes text ≡ course_prints input.now) }
 {
     take_lines(heap, looked_at(input))
 }

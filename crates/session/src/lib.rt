@@ -4,6 +4,7 @@
 pub mod course;
 mod declined;
 pub mod examples;
+mod line;
 mod orders;
 mod phase;
 mod rows;

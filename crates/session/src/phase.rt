@@ -1,17 +1,18 @@
 // A session takes record lines until its image has ended, and orders from then on.
-ghost use Rattle.std.specs.Prelude.{◌≡◌, ◌++◌, is_ok, IfOk, if◌then◌else◌};
+ghost use Rattle.std.specs.Prelude.{◌≡◌};
 ghost use Rattle.board.specs.Situation.{situation};
-ghost use Rattle.session.specs.Phase.{shown, core_in, record_line, line_said, closing};
+ghost use Rattle.session.specs.Phase.{shown, record_line, line_said, closing};
+ghost use Rattle.session.specs.Rows.{printed_row};
 
-use crate::declined::Declined;
+use crate::line::Line;
 use crate::orders::take_order;
 use crate::rows::blank_row;
 use board::board::Board;
-use board::stages::{Live, Loading};
+use board::stages::Loading;
 use bus::traits::Bus;
-use console::row::push_row;
+use console::row::RegisterRow;
 use isa::core08::Core;
-use std::alloc::AllocError;
+use state::live::Live;
 
 #[derive(Drop)]
 pub enum Phase<B, C> {
@@ -21,8 +22,7 @@ pub enum Phase<B, C> {
 
 // Closes and resets a board whose image has ended.
 fn close<B: Bus, C: Core>(board: Board<B, C, Loading>) -> Phase<B, C>
-    ensures shown { shown B.cells result ≡ closing (situation B.cells board) }
-    ensures core { core_in result ≡ board.core }
+    ensures { shown B.cells result ≡ closing (situation B.cells board) }
 {
     match board.close() {
         Ok(ready) => Phase::Orders(ready.reset()),
@@ -30,44 +30,32 @@ fn close<B: Bus, C: Core>(board: Board<B, C, Loading>) -> Phase<B, C>
     }
 }
 
-// Takes a record line; a refused one adds its row.
-fn take_record<B: Bus + Drop, C: Core + Drop>(
-    board: Board<B, C, Loading>,
-    line: &[u8],
-    number: u32,
-    text: &mut Vec<u8>,
-) -> Result<Phase<B, C>, AllocError>
-    ensures shown { IfOk result (λ p. shown B.cells p ≡ (record_line number line.now (situation B.cells board)).1) }
-    ensures core { IfOk result (λ p. core_in p ≡ board.core) }
-    ensures text { text.new.items ≡ (if is_ok result then text.old.items ++ (record_line number line.now (situation B.cells board)).0 else text.old.items) }
+// Takes a record line; a refused one gives its row.
+fn take_record<B: Bus, C: Core>(
+    mut board: Board<B, C, Loading>,
+    line: Line<'_>,
+) -> (Phase<B, C>, Option<RegisterRow>)
+    ensures { (printed_row result.1, shown B.cells result.0) ≡ record_line line.entry.number line.entry.text.now (situation B.cells board) }
 {
-    let mut board = board;
-    match board.line(line) {
-        Ok(()) => Ok(close(board)),
+    match board.line(line.text) {
+        Ok(()) => (close(board), None),
         Err(refusal) => {
-            push_row(text, &blank_row(number, Declined::ByBoard(refusal)))?;
-            Ok(Phase::Records(board))
+            let row = blank_row(line.number, refusal.into());
+            (Phase::Records(board), Some(row))
         }
     }
 }
 
-impl<B: Bus + Drop, C: Core + Drop> Phase<B, C> {
-    // Takes a line of the session, and adds what is printed of it.
-    pub(crate) fn take_line(
-        self,
-        line: &[u8],
-        number: u32,
-        text: &mut Vec<u8>,
-    ) -> Result<Phase<B, C>, AllocError>
-        ensures shown { IfOk result (λ p. shown B.cells p ≡ (line_said (C.table (core_in self)) (C.entry_figure (core_in self)) number line.now (shown B.cells self)).1) }
-        ensures core { IfOk result (λ p. core_in p ≡ core_in self) }
-        ensures text { text.new.items ≡ (if is_ok result then text.old.items ++ (line_said (C.table (core_in self)) (C.entry_figure (core_in self)) number line.now (shown B.cells self)).0 else text.old.items) }
+impl<B: Bus, C: Core> Phase<B, C> {
+    // Takes a line of the session, and gives the row that is printed of it.
+    pub(crate) fn take_line(self, line: Line<'_>) -> (Phase<B, C>, Option<RegisterRow>)
+        ensures { (printed_row result.1, shown B.cells result.0) ≡ line_said C.table C.entry_figure line.entry.number line.entry.text.now (shown B.cells self) }
     {
         match self {
-            Phase::Records(board) => take_record(board, line, number, text),
+            Phase::Records(board) => take_record(board, line),
             Phase::Orders(mut board) => {
-                take_order(&mut board, line, number, text)?;
-                Ok(Phase::Orders(board))
+                let row = take_order(&mut board, line);
+                (Phase::Orders(board), Some(row))
             }
         }
     }

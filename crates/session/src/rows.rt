@@ -1,17 +1,20 @@
 // The rows of a session.
-ghost use Rattle.std.specs.Prelude.{◌≡◌};
-ghost use Rattle.session.specs.Rows.{blank_row, register_row};
+ghost use Rattle.std.specs.Prelude.{◌≡◌, ◌++◌, is_ok, if◌then◌else◌};
+ghost use Rattle.std.specs.String.{string_bytes};
+ghost use Rattle.session.specs.Rows.{blank_row, printed_row, register_row};
 
 use crate::declined::Declined;
 use console::row::RegisterRow;
-use machine::registers::Registers;
+use state::registers::Registers;
+use std::alloc::AllocError;
 
-// What an order took: its steps, their cycles, and the number of what ended or refused it.
+// What an order took: its steps and their cycles.
 #[derive(Clone, Copy)]
-pub struct Outcome {
+pub struct Ran {
     pub steps: u32,
     pub cycles: u32,
-    pub refusal: u8,
+    // the number of what ended it, 0 for none, as the board's run answers it
+    pub ended: u8,
 }
 
 // The row of a line that is refused before the board is live: there are no registers to show.
@@ -20,30 +23,43 @@ pub(crate) fn blank_row(line: u32, declined: Declined) -> RegisterRow
 {
     RegisterRow {
         line,
-        steps: 0,
-        cycles: 0,
-        refusal: declined.number(),
-        pc: 0,
-        a: 0,
-        hx: 0,
-        sp: 0,
-        ccr: 0,
+        refusal: declined.into(),
+        ..RegisterRow::default()
     }
 }
 
-// The row of an order.
-pub(crate) fn register_row(line: u32, outcome: Outcome, registers: Registers) -> RegisterRow
-    ensures { result ≡ register_row line outcome registers }
+// The row of an order that was obeyed or declined; a declined one took no step.
+pub(crate) fn register_row(
+    line: u32,
+    obeyed: Result<Ran, Declined>,
+    registers: Registers,
+) -> RegisterRow
+    ensures { result ≡ register_row line obeyed registers }
 {
+    let (steps, cycles, refusal) = match obeyed {
+        Ok(ran) => (ran.steps, ran.cycles, ran.ended),
+        Err(declined) => (0, 0, declined.into()),
+    };
     RegisterRow {
         line,
-        steps: outcome.steps,
-        cycles: outcome.cycles,
-        refusal: outcome.refusal,
+        steps,
+        cycles,
+        refusal,
         pc: registers.pc,
         a: registers.a,
         hx: registers.hx(),
         sp: registers.sp,
-        ccr: registers.flags.to_byte(),
+        ccr: u8::from(registers.flags),
     }
+}
+
+// Adds the row that a line has, if it has one, and a line feed. Where memory is wanting, the text stays as it was.
+pub(crate) fn print_row(text: &mut String, row: Option<RegisterRow>) -> Result<(), AllocError>
+    ensures { string_bytes text.new ≡ (if is_ok result then string_bytes text.old ++ printed_row row else string_bytes text.old) }
+{
+    let Some(row) = row else {
+        return Ok(());
+    };
+    let line = format!(in *text.allocator(); "{row}\n")?;
+    text.push_str(line.as_str())
 }

@@ -1,3 +1,4 @@
+pub mod Bytes
 pub mod Hexadecimal
 pub mod Loading
 pub mod Reading

@@ -6,22 +6,23 @@ use Rattle.bus.specs.Cell.{Cell, Cells, open_cell, guarded_cell, missing_cell, s
 use Rattle.srecord.specs.declared.record.Kind.{Kind}
 use Rattle.srecord.specs.declared.record.Kind.TheVariants.{Data}
 use Rattle.srecord.specs.declared.refusal.LineRefusal.{LineRefusal}
-use Rattle.srecord.specs.Digits.{byte_of, byte_at}
-use Rattle.srecord.specs.Load.{address_of, open_answer, first_refusal, open_from, stored_data, data_answer, read_taken, line_taken, count_in, address_in, DataLine, DataSpelled}
+use Rattle.srecord.specs.Digits.{byte_of, byte_at, address_of}
+use Rattle.srecord.specs.Load.{open_answer, first_refusal, open_from, stored_data, data_answer, read_taken, line_taken, count_in, address_in, DataLine, DataSpelled}
 use Rattle.srecord.specs.Reader.{address_digits, data_digits, record_of}
 use Rattle.srecord.specs.Record.{Parsed, data_parsed, kind_of, parsed_of}
+use Rattle.srecord.proofs.Bytes.{same_byte}
 use Rattle.srecord.proofs.Reading.{line_read}
-use Rattle.srecord.proofs.Refusals.{passed}
+use Rattle.srecord.proofs.Refusals.{never_both, passed}
 
 -- a cell that takes a byte shows it
 open_takes : (address : ℕ) (cell : Cell) (byte : ℕ) → open_answer address (store_answer cell) ≡ Ok tt → overwritten cell byte ≡ open_cell byte
 open_takes address (open_cell old) byte is = refl
-open_takes address (guarded_cell old) byte is = let never : ◌≡◌ {A = ℕ} 0 1 = cc in absurd (omega arith)
-open_takes address missing_cell byte is = let never : ◌≡◌ {A = ℕ} 0 1 = cc in absurd (omega arith)
+open_takes address (guarded_cell old) byte is = never_both is
+open_takes address missing_cell byte is = never_both is
 
 none_refused : (one next : Result Unit LineRefusal) → first_refusal one next ≡ Ok tt → (one ≡ Ok tt) × (next ≡ Ok tt)
 none_refused (Ok done) next is = (refl, is)
-none_refused (Err refusal) next is = let never : ◌≡◌ {A = ℕ} 0 1 = cc in absurd (omega arith)
+none_refused (Err refusal) next is = never_both is
 
 module _ (cells : Cells) (address : ℕ) (digits : List ℕ) where
   -- a cell without a byte of the data keeps
@@ -40,9 +41,6 @@ module _ (cells : Cells) (address : ℕ) (digits : List ℕ) where
       (λ same. let P : ℕ → Type 0 = λ j. stored_data cells address digits (suc n) (address + j) ≡ open_cell (byte_at digits j) in subst P (sym same) here)
       (λ other. cond-false _ _ _ (ne_eqb (address + k) (address + n) (λ e. other (omega arith))) ∙ stored_at n k (omega arith) parts.0)
       (cases_eq k n)
-
-same_byte : {a b c d : ℕ} → a ≡ c → b ≡ d → byte_of a b ≡ byte_of c d
-same_byte {a} {b} {c} {d} p q = ap (λ x. byte_of x b) p ∙ ap (λ x. byte_of c x) q
 
 data_size : (digits : List ℕ) → length digits ≡ 2 + 2 * byte_at digits 0 → length (data_digits digits) / 2 ≡ byte_at digits 0 - 3
 data_size digits long =
@@ -75,7 +73,7 @@ module _ (line : List ℕ) where
   -- a line of kind `1` that was read is a data record
   data_read : (parsed : Parsed) → DataLine line → record_of line ≡ Ok parsed → (length (drop 2 line) ≡ 2 + 2 * byte_at (drop 2 line) 0) × (record_of line ≡ Ok (data_parsed (address_digits (drop 2 line)) (data_digits (drop 2 line))))
   data_read parsed one is =
-      let read = (line_read line parsed is).1 in
+      let read = line_read line parsed is in
       let both : ◌≡◌ {A = Result Kind LineRefusal} (Ok read.known) (Ok Data) = sym read.kind_is ∙ ap kind_of one in
       let kind : read.known ≡ Data = cc in
       (read.long, is ∙ ap Ok (sym read.parsed_is ∙ ap (λ k. parsed_of k (address_digits (drop 2 line)) (data_digits (drop 2 line))) kind))
@@ -83,7 +81,7 @@ module _ (line : List ℕ) where
   module _ (cells : Cells) where
     taken_parsed : (answered : Result Parsed LineRefusal) → (read_taken cells answered).answer ≡ Ok tt → (parsed : Parsed) × (answered ≡ Ok parsed)
     taken_parsed (Ok parsed) is = (parsed, refl)
-    taken_parsed (Err refusal) is = let never : ◌≡◌ {A = ℕ} 0 1 = cc in absurd (omega arith)
+    taken_parsed (Err refusal) is = never_both is
 
     -- a data line that was taken had open cells, and has stored its bytes
     data_taken : DataLine line → (read_taken cells (record_of line)).answer ≡ Ok tt → (open_from cells (address_in line) (count_in line - 3) ≡ Ok tt) × ((read_taken cells (record_of line)).memory ≡ stored_data cells (address_in line) (data_digits (drop 2 line)) (count_in line - 3))
@@ -99,7 +97,7 @@ module _ (line : List ℕ) where
         (ap (λ n. open_from cells (address_in line) n) (sym size) ∙ (ap (λ a. open_from cells a (length digits / 2)) (sym address_is) ∙ opened), memory ∙ (ap (λ a. stored_data cells a digits (length digits / 2)) address_is ∙ ap (λ n. stored_data cells (address_in line) digits n) size))
 
     pub data_spelled : (ended : Bool) (answer : Result Unit LineRefusal) (after : Cells) → answer ≡ (line_taken ended cells line).answer → after ≡ (line_taken ended cells line).memory → DataLine line → answer ≡ Ok tt → DataSpelled line cells after
-    data_spelled true answer after answered left one ok = let never : ◌≡◌ {A = ℕ} 0 1 = cc in absurd (omega arith)
+    data_spelled true answer after answered left one ok = never_both (sym answered ∙ ok)
     data_spelled false answer after answered left one ok =
         let taken = data_taken one (sym answered ∙ ok) in
         let digits = data_digits (drop 2 line) in

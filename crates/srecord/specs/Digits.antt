@@ -1,5 +1,6 @@
 -- Hexadecimal digits, and the bytes that pairs of them spell.
-use Rattle.std.specs.Prelude.{ℕ, ◌+◌, ◌-◌, ◌*◌, Bool, true, cond, ◌&&◌, List, [], ◌∷◌, is_some, Some, None, Ok, Err, Option, Result, nat_le, slice_index}
+use Rattle.std.specs.Prelude.{ℕ, ◌+◌, ◌-◌, ◌*◌, Bool, cond, ◌&&◌, List, [], ◌∷◌, is_some, Some, None, Ok, Err, Option, Result, nat_le, slice_index}
+use Rattle.std.specs.List.{list_all}
 use Rattle.srecord.specs.declared.refusal.LineRefusal.{LineRefusal}
 use Rattle.srecord.specs.declared.refusal.LineRefusal.TheVariants.{NotHexadecimal}
 
@@ -17,8 +18,7 @@ value_of c = elim (digit_of c) [ Some value ↦ value | None ↦ 0 ]
 
 -- whether each character is a hexadecimal digit
 abbrev pub all_digits : List ℕ → Bool
-all_digits [] = true
-all_digits (c ∷ cs) = is_some (digit_of c) && all_digits cs
+all_digits cs = list_all (λ c. is_some (digit_of c)) cs
 
 -- the byte that two digits spell, the high one first
 abbrev pub byte_of : ℕ → ℕ → ℕ
@@ -31,3 +31,13 @@ pair_of high low = cond (is_some (digit_of high) && is_some (digit_of low)) (Ok 
 -- byte `n` that digits spell, counted from 0
 abbrev pub byte_at : List ℕ → ℕ → ℕ
 byte_at digits n = byte_of (slice_index digits (2 * n)) (slice_index digits (2 * n + 1))
+
+-- the bytes that digits spell, in order
+abbrev pub bytes_of : List ℕ → List ℕ
+bytes_of [] = []
+bytes_of (c ∷ []) = []
+bytes_of (high ∷ low ∷ cs) = byte_of high low ∷ bytes_of cs
+
+-- the address that four digits spell
+abbrev pub address_of : List ℕ → ℕ
+address_of digits = 256 * byte_at digits 0 + byte_at digits 1

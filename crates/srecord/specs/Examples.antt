@@ -2,7 +2,8 @@
 use Rattle.std.specs.Prelude.{◌≡◌, ℕ, false, List, Ok, Err, codes}
 use Rattle.bus.specs.Cell.{Cells, open_cell}
 use Rattle.srecord.specs.declared.refusal.LineRefusal.TheVariants.{WrongChecksum}
-use Rattle.srecord.specs.Load.{address_of, line_taken}
+use Rattle.srecord.specs.Digits.{address_of}
+use Rattle.srecord.specs.Load.{line_taken}
 use Rattle.srecord.specs.Reader.{record_of}
 use Rattle.srecord.specs.Record.{data_parsed}
 

@@ -4,19 +4,9 @@ use Rattle.bus.specs.Cell.{Cells, open_cell, store_answer, stored}
 use Rattle.bus.specs.declared.cell.BusRefusal.{BusRefusal}
 use Rattle.srecord.specs.declared.refusal.LineRefusal.{LineRefusal}
 use Rattle.srecord.specs.declared.refusal.LineRefusal.TheVariants.{AfterEnd, PastTheEnd, NotOpen}
-use Rattle.srecord.specs.Digits.{all_digits, byte_of, byte_at}
+use Rattle.srecord.specs.Digits.{byte_of, byte_at, address_of}
 use Rattle.srecord.specs.Reader.{record_of}
 use Rattle.srecord.specs.Record.{Parsed, header_parsed, data_parsed, end_parsed}
-
--- the address that four digits spell
-abbrev pub address_of : List ℕ → ℕ
-address_of digits = 256 * byte_at digits 0 + byte_at digits 1
-
--- the address of a data record has four characters, and they and those of the data are digits
-abbrev pub Formed : Parsed → Type 0
-Formed (header_parsed digits) = Unit {0}
-Formed (data_parsed address digits) = (length address ≡ 4) × (all_digits address ≡ true) × (all_digits digits ≡ true)
-Formed (end_parsed address) = Unit {0}
 
 -- what the bus says of a byte for an address, as the refusal of a line
 abbrev pub open_answer : ℕ → Result Unit BusRefusal → Result Unit LineRefusal

@@ -15,9 +15,9 @@ pub data Parsed : Type 0 where
 
 -- what a record says
 abbrev pub parsed_by : Record → Parsed
-parsed_by (HeaderRecord digits) = header_parsed digits.now
-parsed_by (DataRecord address digits) = data_parsed address.now digits.now
-parsed_by (EndRecord address) = end_parsed address.now
+parsed_by (HeaderRecord digits) = header_parsed digits.characters.now
+parsed_by (DataRecord address digits) = data_parsed address.digits.characters.now digits.characters.now
+parsed_by (EndRecord address) = end_parsed address.digits.characters.now
 
 -- what an answer of the reader says
 abbrev pub answer_parsed : Result Record LineRefusal → Result Parsed LineRefusal

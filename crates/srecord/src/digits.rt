@@ -1,7 +1,6 @@
 // Hexadecimal digits, and the bytes that pairs of them spell.
-ghost use Rattle.std.specs.Prelude.{◌≡◌, ◌+◌, ◌*◌, ◌<◌, true, length, if◌then◌else◌, Ok, Err};
-ghost use Rattle.srecord.specs.declared.refusal.LineRefusal.TheVariants.{NotHexadecimal};
-ghost use Rattle.srecord.specs.Digits.{digit_of, pair_of, byte_at, all_digits};
+ghost use Rattle.std.specs.Prelude.{◌≡◌};
+ghost use Rattle.srecord.specs.Digits.{digit_of, pair_of};
 
 use crate::refusal::LineRefusal;
 
@@ -17,7 +16,7 @@ pub fn digit(character: u8) -> Option<u8>
     }
 }
 
-// The byte that two digits spell.
+// The byte that two digits spell. Each digit's value is taken apart by `let .. else` by a rule of the project.
 pub fn pair(high: u8, low: u8) -> Result<u8, LineRefusal>
     ensures { result ≡ pair_of high low }
 {
@@ -28,28 +27,4 @@ pub fn pair(high: u8, low: u8) -> Result<u8, LineRefusal>
         return Err(LineRefusal::NotHexadecimal);
     };
     Ok(16 * high + low)
-}
-
-// Refuses characters of which one is no digit.
-pub(crate) fn all_hexadecimal(characters: &[u8]) -> Result<(), LineRefusal>
-    ensures { result ≡ (if all_digits characters.now then Ok tt else Err NotHexadecimal) }
-{
-    for character in characters {
-        let Some(_value) = digit(*character) else {
-            return Err(LineRefusal::NotHexadecimal);
-        };
-    }
-    Ok(())
-}
-
-// Byte `n` that digits spell, counted from 0.
-pub(crate) fn byte_at(digits: &[u8], n: usize) -> u8
-    requires within { 2 * n + 1 < length digits.now }
-    requires hexadecimal { all_digits digits.now ≡ true }
-    ensures { result ≡ byte_at digits.now n }
-{
-    match pair(digits[2 * n], digits[2 * n + 1]) {
-        Ok(byte) => byte,
-        Err(_) => unreachable(),
-    }
 }

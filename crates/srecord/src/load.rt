@@ -1,11 +1,10 @@
 // Taking a record line while a memory is loaded.
-ghost use Rattle.std.specs.Prelude.{◌≡◌, ◌+◌, ◌/◌, ◌≤◌, true, false, length, Ok};
+ghost use Rattle.std.specs.Prelude.{◌≡◌, ◌+◌, ◌/◌, ◌≤◌, false, length, Ok};
 ghost use Rattle.bus.specs.Cell.{store_answer};
-ghost use Rattle.srecord.specs.Digits.{all_digits};
-ghost use Rattle.srecord.specs.Load.{address_of, open_answer, open_from, stored_data, data_answer, data_memory, record_taken, line_taken, Formed, DataLine, DataSpelled};
+ghost use Rattle.srecord.specs.Load.{open_answer, open_from, stored_data, data_answer, data_memory, record_taken, line_taken, DataLine, DataSpelled};
 ghost use Rattle.srecord.specs.Record.{parsed_by};
 
-use crate::digits::byte_at;
+use crate::hex_digits::HexDigits;
 use crate::reader::read_record;
 use crate::record::Record;
 use crate::refusal::LineRefusal;
@@ -30,15 +29,14 @@ pub fn take_line<B: Bus>(bus: &mut B, ended: &mut bool, line: &[u8]) -> Result<(
 
 // Takes what a line says.
 fn take_record<B: Bus>(bus: &mut B, ended: &mut bool, parsed: Record<'_>) -> Result<(), LineRefusal>
-    requires loading { ended.old ≡ false }
-    requires formed { Formed (parsed_by parsed) }
+    requires { ended.old ≡ false }
     ensures answer { result ≡ (record_taken (B.cells bus.old) (parsed_by parsed.entry)).answer }
     ensures ending { ended.new ≡ (record_taken (B.cells bus.old) (parsed_by parsed.entry)).is_ended }
     ensures memory { B.cells bus.new ≡ (record_taken (B.cells bus.old) (parsed_by parsed.entry)).memory }
 {
     match parsed {
         Record::Header { .. } => Ok(()),
-        Record::Data { address, digits } => take_data(bus, address_of(address), digits),
+        Record::Data { address, digits } => take_data(bus, address.value(), digits),
         Record::End { .. } => {
             *ended = true;
             Ok(())
@@ -46,20 +44,10 @@ fn take_record<B: Bus>(bus: &mut B, ended: &mut bool, parsed: Record<'_>) -> Res
     }
 }
 
-// The address that four digits spell.
-fn address_of(digits: &[u8]) -> u16
-    requires four { length digits.now ≡ 4 }
-    requires hexadecimal { all_digits digits.now ≡ true }
-    ensures { result ≡ address_of digits.now }
-{
-    256 * u16::from(byte_at(digits, 0)) + u16::from(byte_at(digits, 1))
-}
-
 // Stores data, if every byte has an open cell.
-fn take_data<B: Bus>(bus: &mut B, address: u16, digits: &[u8]) -> Result<(), LineRefusal>
-    requires { all_digits digits.now ≡ true }
-    ensures answer { result ≡ data_answer (B.cells bus.old) address digits.now }
-    ensures memory { B.cells bus.new ≡ data_memory (B.cells bus.old) address digits.now }
+fn take_data<B: Bus>(bus: &mut B, address: u16, digits: HexDigits<'_>) -> Result<(), LineRefusal>
+    ensures answer { result ≡ data_answer (B.cells bus.old) address digits.entry.characters.now }
+    ensures memory { B.cells bus.new ≡ data_memory (B.cells bus.old) address digits.entry.characters.now }
 {
     let count = digits.len() / 2;
     if usize::from(address) + count > MEMORY_SIZE {
@@ -75,8 +63,9 @@ fn require_open<B: Bus>(bus: &B, address: u16, count: usize) -> Result<(), LineR
     requires { address + count ≤ 65536 }
     ensures { result ≡ open_from (B.cells bus.now) address count }
 {
-    for n in 0..count {
-        require_open_cell(bus, (usize::from(address) + n) as u16)?;
+    let first = usize::from(address);
+    for place in first..first + count {
+        require_open_cell(bus, place as u16)?;
     }
     Ok(())
 }
@@ -94,12 +83,12 @@ fn require_open_cell<B: Bus>(bus: &B, address: u16) -> Result<(), LineRefusal>
 }
 
 // Stores the bytes that digits spell, from an address on. The cells are open, so that none refuses its byte.
-fn store_data<B: Bus>(bus: &mut B, address: u16, digits: &[u8])
-    requires within { address + length digits.now / 2 ≤ 65536 }
-    requires hexadecimal { all_digits digits.now ≡ true }
-    ensures { B.cells bus.new ≡ stored_data (B.cells bus.old) address digits.now (length digits.now / 2) }
+fn store_data<B: Bus>(bus: &mut B, address: u16, digits: HexDigits<'_>)
+    requires { address + length digits.characters.now / 2 ≤ 65536 }
+    ensures { B.cells bus.new ≡ stored_data (B.cells bus.old) address digits.entry.characters.now (length digits.entry.characters.now / 2) }
 {
-    for n in 0..digits.len() / 2 {
-        let _ = bus.store((usize::from(address) + n) as u16, byte_at(digits, n));
+    let first = usize::from(address);
+    for (place, byte) in (first..MEMORY_SIZE).zip(digits.bytes()) {
+        let _ = bus.store(place as u16, byte);
     }
 }

@@ -2,17 +2,26 @@
 ghost use Rattle.std.specs.Prelude.{◌≡◌};
 ghost use Rattle.srecord.specs.Record.{kind_of, count_allowed, parsed_by, parsed_of};
 
+use crate::address::HexAddress;
+use crate::hex_digits::HexDigits;
 use crate::refusal::LineRefusal;
 
 // A record borrows its digits from the line: the four of its address, and those of its data.
 #[derive(Clone, Copy, Debug)]
 pub enum Record<'a> {
-    Header { digits: &'a [u8] },
-    Data { address: &'a [u8], digits: &'a [u8] },
-    End { address: &'a [u8] },
+    Header {
+        digits: HexDigits<'a>,
+    },
+    Data {
+        address: HexAddress<'a>,
+        digits: HexDigits<'a>,
+    },
+    End {
+        address: HexAddress<'a>,
+    },
 }
 
-// The kinds of record.
+// The kinds of record. They stand beside `Record`, since a line of an unknown kind is refused before its digits are read, when there is no record yet.
 #[derive(Clone, Copy)]
 pub(crate) enum Kind {
     Header,
@@ -20,11 +29,13 @@ pub(crate) enum Kind {
     End,
 }
 
-impl Kind {
-    // The kind that a record line's second character names.
-    pub(crate) fn named(character: u8) -> Result<Kind, LineRefusal>
-        ensures { result ≡ kind_of character }
-    {
+// The kind that a record line's second character names.
+impl TryFrom<u8> for Kind {
+    type Error = LineRefusal;
+
+    ghost try_from_gives = { λ character answer. answer ≡ kind_of character };
+
+    fn try_from(character: u8) -> Result<Kind, LineRefusal> {
         match character {
             b'0' => Ok(Kind::Header),
             b'1' => Ok(Kind::Data),
@@ -32,7 +43,9 @@ impl Kind {
             _ => Err(LineRefusal::UnknownKind),
         }
     }
+}
 
+impl Kind {
     // Whether a record of this kind may count so many bytes: an end record has an address and no data.
     pub(crate) fn allows(self, count: u8) -> bool
         ensures { result ≡ count_allowed self count }
@@ -44,8 +57,8 @@ impl Kind {
     }
 
     // The record of this kind.
-    pub(crate) fn record<'a>(self, address: &'a [u8], digits: &'a [u8]) -> Record<'a>
-        ensures { parsed_by result ≡ parsed_of self address.now digits.now }
+    pub(crate) fn record<'a>(self, address: HexAddress<'a>, digits: HexDigits<'a>) -> Record<'a>
+        ensures { parsed_by result ≡ parsed_of self address.entry.digits.characters.now digits.entry.characters.now }
     {
         match self {
             Kind::Header => Record::Header { digits },

@@ -22,12 +22,12 @@ pub enum LineRefusal {
     NotOpen { address: u16, refusal: BusRefusal },
 }
 
-impl LineRefusal {
-    // The refusal's number.
-    pub fn number(self) -> u8
-        ensures { result ≡ line_number self }
-    {
-        match self {
+// The refusal's number.
+impl From<LineRefusal> for u8 {
+    ghost from_gives = { λ refusal number. number ≡ line_number refusal };
+
+    fn from(refusal: LineRefusal) -> u8 {
+        match refusal {
             LineRefusal::AfterEnd => 10,
             LineRefusal::NoRecord => 11,
             LineRefusal::UnknownKind => 12,

@@ -2,5 +2,6 @@
 #![tactic(auto)]
 
 pub mod lines;
+pub mod live;
 pub mod registers;
 pub mod standing;

@@ -2,11 +2,13 @@
 ghost use Rattle.std.specs.Prelude.{◌≡◌, ℕ, ◌<◌, ◌≤◌, true, false, if◌then◌else◌, nat_eq};
 ghost use Rattle.state.specs.Lines.{is_raised, with_line_raised, with_line_dropped, served_line, vector_of, Lowest};
 
+use alu::bits::{clear_bit, is_bit_set, set_bit};
+
 // Whether a line is raised.
 pub fn is_raised(lines: u32, line: u32) -> bool
     ensures { result ≡ is_raised lines line }
 {
-    line < 32 && (lines >> line) % 2 == 1
+    is_bit_set(lines, line)
 }
 
 // The set with a line raised. A line from 32 on does not exist.
@@ -14,7 +16,7 @@ pub fn with_raised(lines: u32, line: u32) -> u32
     ensures value { result ≡ with_line_raised lines line }
     ensures raised { line < 32 → (other : ℕ) → is_raised result other ≡ (if nat_eq other line then true else is_raised lines other) }
 {
-    if line < 32 { lines | 1 << line } else { lines }
+    set_bit(lines, line)
 }
 
 // The set with a line dropped.
@@ -22,11 +24,7 @@ pub fn with_dropped(lines: u32, line: u32) -> u32
     ensures value { result ≡ with_line_dropped lines line }
     ensures dropped { line < 32 → (other : ℕ) → is_raised result other ≡ (if nat_eq other line then false else is_raised lines other) }
 {
-    if line < 32 {
-        lines & !(1 << line)
-    } else {
-        lines
-    }
+    clear_bit(lines, line)
 }
 
 // The line that is served: the lowest one raised.

@@ -3,7 +3,7 @@ ghost use Rattle.std.specs.Prelude.{◌≡◌};
 ghost use Rattle.state.specs.Registers.{hx, with_a, with_x, with_h, with_hx, tested};
 
 use alu::flags::Flags;
-use alu::logic::test_byte;
+use alu::logic::test;
 use alu::words::{high_byte, low_byte, word};
 
 // The accumulator, the index register H:X by its halves, the stack pointer, the program counter and the flags.
@@ -64,6 +64,6 @@ impl Registers {
     pub fn test(&mut self, byte: u8)
         ensures { self.new ≡ tested byte self.old }
     {
-        self.flags = test_byte(byte, self.flags).1;
+        self.flags = test(byte, self.flags).1;
     }
 }

@@ -4,10 +4,10 @@ use crate::check::check_eq;
 use alu::addresses::displaced;
 use alu::decimal::decimal_adjust;
 use alu::flags::Flags;
-use alu::logic::{and, exclusive_or, or, test_byte, test_word};
+use alu::logic::{and, exclusive_or, or, test};
 use alu::products::{divide, multiply};
 use alu::shifts::{arithmetic_shift_right, rotate_left, rotate_right, shift_left, shift_right};
-use alu::sums::{add, subtract, subtract_words};
+use alu::sums::{add, subtract};
 use alu::unary::{clear, complement, decrement, increment, negate, swap_nibbles};
 use std::test::Fail;
 
@@ -15,13 +15,13 @@ use std::test::Fail;
 fn leaves(outcome: (u8, Flags), byte: u8, ccr: u8) -> Result<(), Fail> {
     let (result, flags) = outcome;
     check_eq(result, byte)?;
-    check_eq(flags.to_byte(), ccr)
+    check_eq(u8::from(flags), ccr)
 }
 
 #[test]
 fn sums(rt: HostRuntime) -> Result<(), Fail> {
-    let none = Flags::from_byte(0x00);
-    let all = Flags::from_byte(0xFF);
+    let none = Flags::from(0x00);
+    let all = Flags::from(0xFF);
     leaves(add(0xFF, 0x01, false, none), 0x00, 0x73)?;
     leaves(add(0x7F, 0x01, false, none), 0x80, 0xF4)?;
     leaves(add(0x80, 0x80, false, all), 0x00, 0xEB)?;
@@ -29,11 +29,11 @@ fn sums(rt: HostRuntime) -> Result<(), Fail> {
     leaves(subtract(0x00, 0x01, false, none), 0xFF, 0x65)?;
     leaves(subtract(0x80, 0x01, false, all), 0x7F, 0xF8)?;
     leaves(subtract(0x00, 0xFF, true, none), 0x00, 0x63)?;
-    leaves(decimal_adjust(0x32, Flags::from_byte(0x71)), 0x98, 0x75)?;
+    leaves(decimal_adjust(0x32, Flags::from(0x71)), 0x98, 0x75)?;
     leaves(decimal_adjust(0x99, none), 0x99, 0x64)?;
-    let (difference, flags) = subtract_words(0x8000, 0x0001, none);
+    let (difference, flags) = subtract(0x8000_u16, 0x0001, false, none);
     assert_eq!(rt; difference, 0x7FFF);
-    assert_eq!(rt; flags.to_byte(), 0xE0);
+    assert_eq!(rt; u8::from(flags), 0xE0);
     assert_eq!(rt; displaced(0x0000, 0xFF), 0xFFFF);
     assert_eq!(rt; displaced(0xFFFF, 0x7F), 0x007E);
     Ok(())
@@ -41,13 +41,13 @@ fn sums(rt: HostRuntime) -> Result<(), Fail> {
 
 #[test]
 fn bytes(rt: HostRuntime) -> Result<(), Fail> {
-    let none = Flags::from_byte(0x00);
-    let all = Flags::from_byte(0xFF);
+    let none = Flags::from(0x00);
+    let all = Flags::from(0xFF);
     leaves(and(0xF0, 0x3C, all), 0x30, 0x79)?;
     leaves(or(0xF0, 0x3C, none), 0xFC, 0x64)?;
     leaves(exclusive_or(0x55, 0x55, none), 0x00, 0x62)?;
-    leaves(test_byte(0x80, all), 0x80, 0x7D)?;
-    assert_eq!(rt; test_word(0x8000, none).1.to_byte(), 0x64);
+    leaves(test(0x80, all), 0x80, 0x7D)?;
+    assert_eq!(rt; u8::from(test(0x8000_u16, none).1), 0x64);
     leaves(increment(0x7F, none), 0x80, 0xE4)?;
     leaves(increment(0xFF, all), 0x00, 0x7B)?;
     leaves(decrement(0x80, none), 0x7F, 0xE0)?;
@@ -68,14 +68,14 @@ fn bytes(rt: HostRuntime) -> Result<(), Fail> {
 fn leaves_two(outcome: ((u8, u8), Flags), bytes: (u8, u8), ccr: u8) -> Result<(), Fail> {
     let (results, flags) = outcome;
     check_eq(results, bytes)?;
-    check_eq(flags.to_byte(), ccr)
+    check_eq(u8::from(flags), ccr)
 }
 
 // 255 * 255 is $FE01. $01DC / 9 is 52, the rest 8, and 5 / 9 is 0. A quotient past 255, as of 0, leaves A and H.
 #[test]
 fn products() -> Result<(), Fail> {
-    let none = Flags::from_byte(0x00);
-    let all = Flags::from_byte(0xFF);
+    let none = Flags::from(0x00);
+    let all = Flags::from(0xFF);
     leaves_two(multiply(0xFF, 0xFF, all), (0xFE, 0x01), 0xEE)?;
     leaves_two(divide(0x01, 0xDC, 9, none), (52, 8), 0x60)?;
     leaves_two(divide(0x00, 0x05, 9, all), (0, 5), 0xFE)?;

@@ -6,10 +6,6 @@ mod arithmetic;
 #[cfg(test)]
 mod check;
 #[cfg(test)]
-mod entry;
-#[cfg(test)]
-mod instructions;
-#[cfg(test)]
 mod interrupts;
 #[cfg(test)]
 mod life;

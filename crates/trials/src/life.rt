@@ -2,11 +2,13 @@
 use crate::check::check_eq;
 use board::board::{Board, CLOCK_LIMIT};
 use board::refusal::{Refusal, Refused};
-use board::stages::{Live, Loading};
+use board::stages::Loading;
 use bus::open::OpenMemory;
 use isa::core08::Core;
-use isa::hcs08::Hcs08;
-use machine::standing::Standing;
+use isa::first_set::FirstSet;
+use isa::model::Model;
+use state::live::Live;
+use state::standing::Standing;
 use std::alloc::Global;
 use std::test::Fail;
 
@@ -15,8 +17,9 @@ fn loading(
     heap: Global,
     size: usize,
     clock: u64,
-) -> Result<Board<OpenMemory, Hcs08, Loading>, Fail> {
-    match Board::make(OpenMemory::new(vec![in heap; 0u8; size]?), Hcs08, clock) {
+) -> Result<Board<OpenMemory, FirstSet<Model>, Loading>, Fail> {
+    let memory = OpenMemory::from(vec![in heap; 0u8; size]?);
+    match Board::make(memory, FirstSet(Model::Hcs08), clock) {
         Ok(board) => Ok(board.begin()),
         Err(_) => Err(Fail::new("not made")),
     }
@@ -28,7 +31,7 @@ fn live(
     size: usize,
     clock: u64,
     line: &[u8],
-) -> Result<Board<OpenMemory, Hcs08, Live>, Fail> {
+) -> Result<Board<OpenMemory, FirstSet<Model>, Live>, Fail> {
     let mut board = loading(heap, size, clock)?;
     check_eq(refusal_of(board.line(line)), 0)?;
     check_eq(refusal_of(board.line(b"S9030000FC")), 0)?;
@@ -42,7 +45,7 @@ fn live(
 fn refusal_of<T: Drop>(answer: Result<T, Refusal>) -> u8 {
     match answer {
         Ok(_) => 0,
-        Err(refusal) => refusal.number(),
+        Err(refusal) => u8::from(refusal),
     }
 }
 
@@ -50,17 +53,17 @@ fn refusal_of<T: Drop>(answer: Result<T, Refusal>) -> u8 {
 #[test]
 fn making(rt: HostRuntime) -> Result<(), Fail> {
     assert_eq!(rt; CLOCK_LIMIT, 1_000_000_000_000_000_000);
-    let memory = OpenMemory::new([1, 2, 3].to_vec(rt.alloc())?);
-    let Err(refused) = Board::make(memory, Hcs08, CLOCK_LIMIT + 1) else {
+    let memory = OpenMemory::from([1, 2, 3].to_vec(rt.alloc())?);
+    let Err(refused) = Board::make(memory, FirstSet(Model::Hcs08), CLOCK_LIMIT + 1) else {
         return Err(Fail::new("made past the limit"));
     };
     let Refused {
         refusal,
         back: (memory, core),
     } = refused;
-    assert_eq!(rt; refusal.number(), 35);
+    assert_eq!(rt; u8::from(refusal), 35);
     assert_eq!(rt; core.entry_cycles(), 11);
-    assert_eq!(rt; memory.into_bytes().as_slice(), [1, 2, 3].as_slice());
+    assert_eq!(rt; Vec::from(memory).as_slice(), [1, 2, 3].as_slice());
     assert_eq!(rt; loading(rt.alloc(), 0, CLOCK_LIMIT)?.clock(), CLOCK_LIMIT);
     Ok(())
 }
@@ -75,7 +78,7 @@ fn closing(rt: HostRuntime) -> Result<(), Fail> {
         refusal,
         back: mut board,
     } = refused;
-    assert_eq!(rt; refusal.number(), 20);
+    assert_eq!(rt; u8::from(refusal), 20);
     assert_eq!(rt; refusal_of(board.line(b"S107000E01020304E0")), 17);
     assert_eq!(rt; refusal_of(board.line(b"S105000E0102E9")), 0);
     assert_eq!(rt; refusal_of(board.line(b"S9030000FC")), 0);

@@ -44,7 +44,7 @@ fn cut_at_the_limit(rt: HostRuntime) -> Result<(), Fail> {
     feeds[0] = b'H';
     let printed = course(heap, feeds.as_slice())?;
     assert!(rt; printed.len() == 50 * 32_766);
-    let last = from_utf8(&printed.as_slice()[50 * 32_765..])?;
+    let last = from_utf8(&printed.as_bytes()[50 * 32_765..])?;
     assert_eq!(rt; last, " 32767     0       0 11     0   0     0     0   0\n");
     Ok(())
 }

@@ -9,7 +9,7 @@ use std::test::Fail;
 // Four bytes are the cells 0 to 3, and there is no other.
 #[test]
 fn open_memory(rt: HostRuntime) -> Result<(), Fail> {
-    let mut memory = OpenMemory::new([10, 11, 12, 13].to_vec(rt.alloc())?);
+    let mut memory = OpenMemory::from([10, 11, 12, 13].to_vec(rt.alloc())?);
     for (address, byte) in [(0, 10), (3, 13)] {
         assert_eq!(rt; memory.class(address), Class::Open);
         assert_eq!(rt; memory.read(address), Ok(byte));
@@ -21,9 +21,9 @@ fn open_memory(rt: HostRuntime) -> Result<(), Fail> {
         assert_eq!(rt; memory.read(address), Err(BusRefusal::MissingCell));
         assert_eq!(rt; memory.store(address, 1), Err(BusRefusal::MissingCell));
     }
-    assert_eq!(rt; BusRefusal::MissingCell.number(), 1);
-    assert_eq!(rt; BusRefusal::GuardedCell.number(), 2);
-    assert_eq!(rt; memory.into_bytes().as_slice(), [20, 11, 12, 23].as_slice());
+    assert_eq!(rt; u8::from(BusRefusal::MissingCell), 1);
+    assert_eq!(rt; u8::from(BusRefusal::GuardedCell), 2);
+    assert_eq!(rt; Vec::from(memory).as_slice(), [20, 11, 12, 23].as_slice());
     Ok(())
 }
 
@@ -31,10 +31,10 @@ fn open_memory(rt: HostRuntime) -> Result<(), Fail> {
 #[test]
 fn past_the_last_address(rt: HostRuntime) -> Result<(), Fail> {
     let mut bytes = vec![in rt.alloc(); 7u8; 65_537]?;
-    let mut memory = OpenMemory::new(bytes);
+    let mut memory = OpenMemory::from(bytes);
     assert_eq!(rt; memory.store(65_535, 8), Ok(()));
     assert_eq!(rt; memory.read(65_535), Ok(8));
-    bytes = memory.into_bytes();
+    bytes = Vec::from(memory);
     assert!(rt; bytes.len() == 65_537);
     assert_eq!(rt; (bytes[65_534], bytes[65_535], bytes[65_536]), (7, 8, 7));
     Ok(())
@@ -43,13 +43,13 @@ fn past_the_last_address(rt: HostRuntime) -> Result<(), Fail> {
 // Data for the cells 14 to 17 of sixteen is refused for the cell 16, and none is stored.
 #[test]
 fn data_without_cells(rt: HostRuntime) -> Result<(), Fail> {
-    let mut memory = OpenMemory::new(vec![in rt.alloc(); 0u8; 16]?);
+    let mut memory = OpenMemory::from(vec![in rt.alloc(); 0u8; 16]?);
     let mut ended = false;
     let missing = LineRefusal::NotOpen {
         address: 16,
         refusal: BusRefusal::MissingCell,
     };
-    assert_eq!(rt; missing.number(), 17);
+    assert_eq!(rt; u8::from(missing), 17);
     let refused = take_line(&mut memory, &mut ended, b"S107000E01020304E0");
     assert_eq!(rt; refused, Err(missing));
     assert_eq!(rt; memory.read(14), Ok(0));

@@ -2,7 +2,6 @@
 use crate::check::check_eq;
 use session::course::course;
 use std::alloc::{AllocError, Global};
-use std::str::from_utf8;
 use std::test::Fail;
 
 // Adds lines to a text, a line feed after each.
@@ -16,11 +15,12 @@ pub(crate) fn add_lines(text: &mut Vec<u8>, lines: &[&str]) -> Result<(), AllocE
 
 // Checks that an input prints these rows and nothing else.
 pub(crate) fn prints(heap: Global, input: &[u8], rows: &[&str]) -> Result<(), Fail> {
-    let mut expected = Vec::new(heap);
-    add_lines(&mut expected, rows)?;
+    let mut expected = String::new(heap);
+    for row in rows {
+        writeln!(expected, "{row}")?;
+    }
     let printed = course(heap, input)?;
-    let printed = from_utf8(printed.as_slice())?;
-    check_eq(printed, from_utf8(expected.as_slice())?)
+    check_eq(printed.as_str(), expected.as_str())
 }
 
 // Checks that a core's session of these lines prints these rows and nothing else.

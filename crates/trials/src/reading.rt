@@ -1,8 +1,9 @@
 // The lines, orders and rows of the console.
 use crate::check::check_eq;
-use console::lines::next_line;
-use console::order::{Order, parse_order};
-use console::row::{RegisterRow, push_row};
+use console::lines::{Lines, next_line};
+use console::order::Order;
+use console::row::RegisterRow;
+use console::understood::NotUnderstood;
 use std::test::Fail;
 
 // Checks how a text is cut after its first line.
@@ -22,20 +23,29 @@ fn lines(rt: HostRuntime) -> Result<(), Fail> {
     cuts(b"\n\n", b"", b"\n")
 }
 
-// The letter and the number of an order.
-fn parts(line: &[u8]) -> Option<(u8, u32)> {
-    match parse_order(line)? {
-        Order::Run(count) => Some((b'R', count)),
-        Order::Raise(count) => Some((b'U', count)),
-        Order::Drop(count) => Some((b'D', count)),
-    }
+// Lines that end in a line feed, and one that does not.
+#[test]
+fn lines_in_turn(rt: HostRuntime) -> Result<(), Fail> {
+    let mut lines = Lines(b"a\n\nb\n");
+    assert_eq!(rt; lines.next(), Some(b"a".as_slice()));
+    assert_eq!(rt; lines.next(), Some(b"".as_slice()));
+    assert_eq!(rt; lines.next(), Some(b"b".as_slice()));
+    assert_eq!(rt; lines.next(), None);
+    assert_eq!(rt; Lines(b"a\nb").count(), 2);
+    Ok(())
 }
 
 #[test]
 fn orders(rt: HostRuntime) {
-    assert_eq!(rt; parts(b"R 20"), Some((b'R', 20)));
-    assert_eq!(rt; parts(b"U 00031"), Some((b'U', 31)));
-    assert_eq!(rt; parts(b"D 99999"), Some((b'D', 99_999)));
+    assert_eq!(rt; Order::try_from(b"R 20".as_slice()), Ok(Order::Run(20)));
+    assert_eq!(rt;
+        Order::try_from(b"U 00031".as_slice()),
+        Ok(Order::Raise(31))
+    );
+    assert_eq!(rt;
+        Order::try_from(b"D 99999".as_slice()),
+        Ok(Order::Drop(99_999))
+    );
     let others: [&[u8]; 8] = [
         b"",
         b"R",
@@ -47,14 +57,13 @@ fn orders(rt: HostRuntime) {
         b"R 1a",
     ];
     for line in others {
-        assert_eq!(rt; parts(line), None);
+        assert_eq!(rt; Order::try_from(line), Err(NotUnderstood));
     }
 }
 
 // A row of the greatest numbers that its columns are wide enough for.
 #[test]
 fn widest_row(rt: HostRuntime) -> Result<(), Fail> {
-    let mut text = Vec::new(rt.alloc());
     let row = RegisterRow {
         line: 999_999,
         steps: 999_999,
@@ -66,10 +75,9 @@ fn widest_row(rt: HostRuntime) -> Result<(), Fail> {
         sp: 65_535,
         ccr: 255,
     };
-    push_row(&mut text, &row)?;
     assert_eq!(rt;
-        text.as_slice(),
-        b"99999999999999999999255 65535 255 65535 65535 255\n".as_slice()
+        format!(in rt.alloc(); "{row}\n")?.as_str(),
+        "99999999999999999999255 65535 255 65535 65535 255\n"
     );
     Ok(())
 }

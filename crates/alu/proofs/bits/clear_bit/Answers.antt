@@ -1,10 +1,12 @@
-use Rattle.std.proofs.Common.{arith}
-use Rattle.std.proofs.lemmas.Nat.{one_shl}
-use Rattle.std.proofs.lemmas.Bool.Decides.{nat_tests}
-use Rattle.alu.proofs.SingleBits.{cleared}
+use Rattle.std.proofs.Common.{sym, arith}
+use Rattle.alu.proofs.SingleBits.{clear_value, clear_only}
 use Rattle.alu.proofs.bits.clear_bit.Goals as goal
 
-pub returns-then-place-lt8 : goal.returns-then-place-lt8
-returns-then-place-lt8 c =
-    rw (one_shl c.args.place 8 c.if-place-lt8.true)
-    (record { value = grind (arith, nat_tests); only = λ h k. cleared 8 c.args.byte c.args.place k h })
+pub returns-then-place-BITS : goal.returns-then-place-BITS
+returns-then-place-BITS g c =
+    let narrow = g.met.N.Unsigned.at_most_32_bits in
+    rw (c.truncate.ensures, sym c.widen.ensures.value)
+    (record {
+      value = clear_value _ _ _ (omega arith) narrow c.widen.ensures.fits;
+      only = λ place. clear_only _ _ _ place narrow c.widen.ensures.fits;
+    })

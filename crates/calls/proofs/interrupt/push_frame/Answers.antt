@@ -1,4 +1,3 @@
-use Rattle.std.proofs.Common.{sym, ◌∙◌}
 use Rattle.alu.specs.Addresses.{before}
 use Rattle.access.specs.Words.{pushed_word}
 use Rattle.access.proofs.Sequence.{after_ok}
@@ -8,14 +7,11 @@ use Rattle.calls.proofs.interrupt.push_frame.Goals as goal
 pub returns : goal.returns
 returns g c =
     let r = c.args.registers.now in
-    c.push_operands.ensures
-    ∙ sym
-    (after_ok
+    after_ok
     (λ _. pushed_operands (before r.sp 2) r)
+    (λ p. p)
     (pushed_word r.sp r.pc)
     (g.B.Bus.cells c.args.bus.now)
-    _
-    _
-    _
     c.push_word.ensures
-    c.in_ok-push_word.was)
+    c.in_ok-push_word.was
+    c.push_operands.ensures

@@ -1,4 +1,4 @@
-use Rattle.std.proofs.Common.{Ok, Result, sym, ap, ◌∙◌}
+use Rattle.std.proofs.Common.{Ok, Result, refl, ap}
 use Rattle.bus.specs.Cell.{Cells}
 use Rattle.access.specs.declared.fault.Fault.{Fault}
 use Rattle.access.specs.Access.{done}
@@ -11,17 +11,16 @@ use Rattle.calls.proofs.returns.return_from_interrupt.Goals as goal
 
 pub returns : goal.returns
 returns g c =
-    let r = c.args.registers.now in
-    let kept : Registers → Result Unit Fault × Registers × Cells = λ s. (Ok tt, s, g.B.Bus.cells c.read_frame.new.bus) in
-    ap kept c.restore.ensures
-    ∙ ap (leaves r)
-    (sym
-    (after_ok
-    (λ frame. done (restored frame r))
-    (frame_read r.sp)
-    (g.B.Bus.cells c.args.bus.now)
-    _
-    _
-    _
-    c.read_frame.ensures
-    c.in_ok-frame.was))
+    let r = c.args.processor.now.registers.now in
+    let kept : Registers → Result Unit Fault × Registers × Cells = λ s. (Ok tt, s, g.B.Bus.cells c.read_frame.new.bus) in (
+      refl,
+      refl,
+      after_ok
+          (λ frame. done (restored frame r))
+          (leaves r)
+          (frame_read r.sp)
+          (g.B.Bus.cells c.args.processor.now.bus.now)
+          c.read_frame.ensures
+          c.in_ok-frame.was
+          (ap kept c.restore.ensures),
+    )

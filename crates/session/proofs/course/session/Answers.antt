@@ -1,35 +1,49 @@
-use Rattle.std.proofs.Common.{vec_items, ◌∙◌, arith}
+use Rattle.std.proofs.Common.{◌≡◌, [], ◌++◌, List, ℕ, vec_items, append-nil, length, sym, ap, ◌∙◌, ⊎_elim, arith}
+use Rattle.std.specs.String.{string_bytes}
 use Rattle.bus.specs.Cell.{Cells}
 use Rattle.bus.specs.Open.{open_cells}
 use Rattle.bus.specs.declared.open.OpenMemory.{OpenMemory}
 use Rattle.console.specs.Lines.{lines_of}
-use Rattle.session.specs.Phase.{core_in, shown}
+use Rattle.session.specs.Phase.{printed, shown}
+use Rattle.session.specs.Rows.{printed_row}
 use Rattle.session.proofs.Printing.{one_line}
 use Rattle.session.proofs.course.session.Goals as goal
 
-pub loop-line-preserved : goal.loop-line-preserved
-loop-line-preserved g c =
+pub loop-number-preserved : goal.loop-number-preserved
+loop-number-preserved g c =
     let memory : OpenMemory → Cells = λ m. open_cells (vec_items m.bytes) in
-    let taken = c.in_ok-phase-2.ensures in
-    let split = c.in-Some.ensures in (
-      omega (arith, split.shorter),
-      taken.core ∙ c.loop-line.invariant.1,
+    let steps = c.in-Some.ensures.steps in
+    let fewer = ap length steps.1 in (
+      omega (arith, fewer, steps.0.0, steps.0.1),
       one_line
           g.C.Core.table
           g.C.Core.entry_figure
-          (core_in c.loop-line.phase)
-          (core_in c.in_ok-phase.phase)
-          c.loop-line.number
+          c.in-Some.number
+          c.loop-number.number-iterator.a.start
+          c.next.new.self.a.start
           c.in-Some.line.now
-          (lines_of c.in-Some.rest.now)
-          (lines_of c.loop-line.left.now)
-          (shown memory c.loop-line.phase)
-          (shown memory c.in_ok-phase-2.phase)
-          (vec_items c.loop-line.text)
-          (vec_items c.take_line.new.text)
-          c.loop-line.invariant.1
-          split.lines
-          taken.shown
-          taken.text
-          ∙ c.loop-line.invariant.2,
+          (lines_of c.next.new.self.b.0.now)
+          (lines_of c.loop-number.number-iterator.b.0.now)
+          (shown memory c.loop-number.phase)
+          (shown memory c.take_line-next.result.0)
+          (string_bytes c.loop-number.text)
+          (string_bytes c.print_row.new.text)
+          (printed_row c.take_line-next.result.1)
+          steps.0.0
+          steps.0.1
+          steps.1
+          c.take_line-next.ensures
+          c.in_ok-print_row.ensures
+          ∙ c.loop-number.invariant.1,
     )
+
+-- the numbers do not run out, so the lines did
+pub returns : goal.returns
+returns g c =
+    let memory : OpenMemory → Cells = λ m. open_cells (vec_items m.bytes) in
+    let loop = c.loop-number in
+    let ended : lines_of loop.number-iterator.b.0.now ≡ [] =
+    ⊎_elim (λ numbers. absurd (omega (arith, numbers.1.0, loop.invariant.0))) (λ lines. lines.1.0) c.in-None.ensures.steps in
+    sym (append-nil (string_bytes loop.text))
+    ∙ ap (λ (left : List (List ℕ)). string_bytes loop.text ++ printed g.C.Core.table g.C.Core.entry_figure loop.number-iterator.a.start left (shown memory loop.phase)) (sym ended)
+    ∙ loop.invariant.1

@@ -4,4 +4,4 @@ use Rattle.session.proofs.course.zeroed_memory.Goals as goal
 
 pub returns : goal.returns
 returns c =
-    c.new.ensures.shown ∙ zeros 65536 (vec_items c.in_ok-vec.field-0) (c.in_ok-vec.ensures.items_if_clones_equal (λ y e. e)) refl
+    c.from.ensures.1 ∙ zeros 65536 (vec_items c.in_ok-vec.field-0) (c.in_ok-vec.ensures.items_if_clones_equal (λ y e. e)) refl

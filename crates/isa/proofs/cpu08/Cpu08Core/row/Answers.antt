@@ -1,8 +1,0 @@
-use Rattle.std.proofs.Common.{arith}
-use Rattle.isa.specs.Tables.{cpu08_table}
-use Rattle.isa.proofs.Tabulated.{row_read}
-use Rattle.isa.proofs.cpu08.Cpu08Core.row.Goals as goal
-
-pub returns-in-First : goal.returns-in-First
-returns-in-First c =
-    row_read cpu08_table c.args.page c.args.opcode c.first_page.result.now c.row_of.result c.row_of.ensures c.first_page.ensures c.in-First.is (omega arith)

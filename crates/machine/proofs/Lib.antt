@@ -1,2 +1,0 @@
-pub mod LineSets
-pub mod Sequence

@@ -1,4 +1,0 @@
-pub mod Act
-pub mod Decode
-pub mod Execute
-pub mod Request

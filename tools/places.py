@@ -1,5 +1,5 @@
 #!/usr/bin/env python3
-"""Lists the places of older forms in crates/*/src, point by point, for docs/DESIGN-PASS.md.
+"""Lists the places of older forms in crates/*/src, kind by kind, for docs/DESIGN-PASS.md.
 
 Usage: tools/places.py [COMMIT]     without a commit, the files of the work tree
 It finds by patterns: docs/DESIGN-PASS.md says which of the lines are places, and what reading found beside them.
@@ -11,14 +11,14 @@ import sys
 COMMIT = sys.argv[1] if len(sys.argv) > 1 else None
 TESTS = re.compile(r"crates/(trials|cases)/")
 
-# What is looked for at each point, line by line; tests are looked at for loops only.
+# What is looked for in each kind, line by line; tests are looked at for loops only.
 PATTERNS = {
     1: r"fn number\(self|(refusal|ended): u8,|\(u32, u32, u8\)|Option<Refusal>\) -> u8|taken: bool",
     3: r"^\s*(for \w+ in 0\.\.|for .*enumerate\(\)|for (digit|character) in|while |let \w+ = loop)",
     4: r"fn (number\(self|to_byte|from_byte|into_bytes|named|core_name|parse_order|row_of|place\(|word\(|high_byte|low_byte|push_\w+\(text|end_number|address_of|all_hexadecimal)|pub fn new\(bytes",
     5: r"ensures core |requires (hexadecimal )?\{ all_digits|number: u32,$|≤ vec_capacity text.old",
     6: r"count: usize|text: &mut Vec<u8>|-> Result<Vec<u8>, AllocError>$|if place < self.bytes",
-    7: r"^\s*match (operation|order|row\.operation|change|branch|jump|way|standstill|pointer|condition|letter)\b",
+    7: r"^\s*(let \w+ = )?match (operation|order|row\.operation|change|branch|jump|way|standstill|pointer|condition|letter|mode|home|operand\.(mode|home)|home_of\(|self\.mode|Order::try_from|\((self\.stage|live)\.standing)",
 }
 
 
@@ -36,9 +36,9 @@ def sources():
 FILES = dict(sources())
 
 
-def by_line(point, pattern):
+def by_line(kind, pattern):
     for name, text in FILES.items():
-        if TESTS.match(name) and point != 3:
+        if TESTS.match(name) and kind != 3:
             continue
         for number, line in enumerate(text.split("\n"), 1):
             if not line.strip().startswith("//") and re.search(pattern, line):
@@ -90,12 +90,12 @@ def twins():
 
 
 def main():
-    found = {point: list(by_line(point, pattern)) for point, pattern in PATTERNS.items()}
+    found = {kind: list(by_line(kind, pattern)) for kind, pattern in PATTERNS.items()}
     found[2] = sorted(twins())
     found[5] += list(together())
-    for point in sorted(found):
-        print(f"point {point}: {len(found[point])}")
-        for place in found[point]:
+    for kind in sorted(found):
+        print(f"kind {kind}: {len(found[kind])}")
+        for place in found[kind]:
             print("    " + place)
 
 

@@ -25,7 +25,7 @@ pub fn store_word<B: Bus>(bus: &mut B, address: u16, word: u16) -> Result<(), Fa
     store_cell(bus, address.wrapping_add(1), low_byte(word))
 }
 
-// Pushes a word down from a place of the stack, its low byte first.
+// Pushes a word down from a place of the stack, its low byte first: other bytes and another way than `store_word`.
 pub fn push_word<B: Bus>(bus: &mut B, sp: u16, word: u16) -> Result<(), Fault>
     ensures { (result, B.cells bus.new) ≡ perform (pushed_word sp word) (B.cells bus.old) }
 {

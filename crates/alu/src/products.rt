@@ -3,7 +3,7 @@ ghost use Rattle.std.specs.Prelude.{◌≡◌, ◌+◌, ◌*◌, ◌<◌};
 ghost use Rattle.alu.specs.Products.{multiply_of, divide_of};
 
 use crate::flags::Flags;
-use crate::words::word;
+use crate::words::{high_byte, low_byte, word};
 
 // Multiplies two bytes. The product's high byte comes first.
 pub fn multiply(x: u8, a: u8, flags: Flags) -> ((u8, u8), Flags)
@@ -11,7 +11,7 @@ pub fn multiply(x: u8, a: u8, flags: Flags) -> ((u8, u8), Flags)
     ensures product { 256 * result.0.0 + result.0.1 ≡ x * a }
 {
     let product = x as u16 * a as u16;
-    let halves = ((product / 256) as u8, (product % 256) as u8);
+    let halves = (high_byte(product), low_byte(product));
     let flags = Flags {
         h: false,
         c: false,

@@ -23,38 +23,34 @@ pub fn add(a: u8, b: u8, carry: bool, flags: Flags) -> (u8, Flags)
     (result, flags)
 }
 
-// The difference of two widened numbers, less a borrow.
+// The difference of two numbers, less a borrow.
 #[tactic(auto, using(crate::proofs::Differences::one_shifted))]
-fn difference<N: Unsigned>(a: u64, b: u64, borrow: bool) -> N
-    requires first { a < 2 ^ N.BITS }
-    requires second { b < 2 ^ N.BITS }
-    ensures { N.number result ≡ difference N.BITS a b borrow }
+fn difference<N: Unsigned>(a: N, b: N, borrow: bool) -> N
+    ensures { N.number result ≡ difference N.BITS (N.number a) (N.number b) borrow }
 {
-    N::truncate((1 << N::BITS) + a - (b + borrow as u64))
+    N::truncate((1 << N::BITS) + N::widen(a) - (N::widen(b) + borrow as u64))
 }
 
 // Whether the signed difference does not fit: the borrows into the top bit and out of it differ.
 #[tactic(auto, using(crate::proofs::Differences::borrows_differ))]
-fn overflows<N: Unsigned>(a: u64, b: u64, borrow: bool) -> bool
-    requires first { a < 2 ^ N.BITS }
-    requires second { b < 2 ^ N.BITS }
-    ensures { result ≡ difference_overflows N.BITS a b borrow }
+fn overflows<N: Unsigned>(a: N, b: N, borrow: bool) -> bool
+    ensures { result ≡ difference_overflows N.BITS (N.number a) (N.number b) borrow }
 {
+    let (a, b) = (N::widen(a), N::widen(b));
     let half: u64 = 1 << (N::BITS - 1);
     (a % half < b % half + borrow as u64) != (a < b + borrow as u64)
 }
 
-// The difference of two widened numbers, less a borrow, and its flags.
+// The difference of two numbers, less a borrow, and its flags.
 #[tactic(auto, unfolding(crate::specs::Sums::difference_overflows))]
-fn subtract_wide<N: Unsigned>(a: u64, b: u64, borrow: bool, flags: Flags) -> (N, Flags)
-    requires first { a < 2 ^ N.BITS }
-    requires second { b < 2 ^ N.BITS }
-    ensures { (N.number result.0, result.1) ≡ difference_of N.BITS a b borrow flags }
+fn difference_and_flags<N: Unsigned>(a: N, b: N, borrow: bool, flags: Flags) -> (N, Flags)
+    ensures value { (N.number result.0, result.1) ≡ difference_of N.BITS (N.number a) (N.number b) borrow flags }
+    ensures fits { (N.number a < 2 ^ N.BITS) × (N.number b < 2 ^ N.BITS) }
 {
     let result = difference(a, b, borrow);
     let flags = Flags {
-        v: overflows::<N>(a, b, borrow),
-        c: a < b + borrow as u64,
+        v: overflows(a, b, borrow),
+        c: N::widen(a) < N::widen(b) + borrow as u64,
         ..flags.with_nz(result)
     };
     (result, flags)
@@ -66,5 +62,5 @@ pub fn subtract<N: Unsigned>(a: N, b: N, borrow: bool, flags: Flags) -> (N, Flag
     ensures whole { 2 ^ N.BITS * bit result.1.c + N.number a ≡ N.number result.0 + N.number b + bit borrow }
     ensures compared { borrow ≡ false → Compared N.BITS (N.number a) (N.number b) result.1 }
 {
-    subtract_wide(N::widen(a), N::widen(b), borrow, flags)
+    difference_and_flags(a, b, borrow, flags)
 }

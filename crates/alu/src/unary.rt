@@ -6,7 +6,7 @@ ghost use Rattle.alu.specs.Unary.{increment_of, decrement_of, negate_of, complem
 use crate::flags::Flags;
 use crate::logic::test;
 
-// One more. C keeps.
+// One more. C keeps. A function that it shared with `decrement` would take the step and the limit, and be longer than both.
 pub fn increment(byte: u8, flags: Flags) -> (u8, Flags)
     ensures value { result ≡ increment_of byte flags }
     ensures overflow { result.1.v ≡ not (fits_in 8 (signed_value 8 byte +ℤ pos 1)) }

@@ -32,7 +32,7 @@ step_refusal clock live =
 
 -- one cycle passes
 abbrev pub waited : Live → Access Executed
-waited live = done (record { registers = live.registers; standing = live.standing; cycles = 1 })
+waited live = done (record { registers = live.registers; standing = Waiting; cycles = 1 })
 
 -- what a step does: a raised line is entered if the board is waiting, stopped or has I clear; waiting, a cycle passes; else the instruction is executed
 abbrev pub action : Table → ℕ → Live → Access Executed

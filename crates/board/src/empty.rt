@@ -31,17 +31,6 @@ impl<B: Bus, C: Core> Board<B, C, Empty> {
     pub fn begin(self) -> Board<B, C, Loading>
         ensures { result ≡ record { bus = self.bus; core = self.core; clock = self.clock; stage = record { ended = false } } }
     {
-        let Board {
-            bus,
-            core,
-            clock,
-            stage: Empty,
-        } = self;
-        Board {
-            bus,
-            core,
-            clock,
-            stage: Loading { ended: false },
-        }
+        self.at(Loading { ended: false })
     }
 }

@@ -14,7 +14,8 @@ use state::live::Live;
 use state::standing::Standing;
 
 impl<B: Bus, C: Core> Board<B, C, Live> {
-    // Takes a step, and answers its cycles.
+    // Takes a step, and answers its cycles. By a rule of the project it matches the standing together with the pending lines, so that a
+    // request is entered in two arms.
     pub fn step(&mut self) -> Result<u8, Refusal>
         ensures { (result, situation B.cells self.new) ≡ step_taken C.table C.entry_figure (situation B.cells self.old) }
     {

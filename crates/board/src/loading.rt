@@ -23,28 +23,12 @@ impl<B: Bus, C: Core> Board<B, C, Loading> {
     pub fn close(self) -> Result<Board<B, C, Ready>, Refused<Board<B, C, Loading>>>
         ensures { result ≡ closed_as self }
     {
-        let Board {
-            bus,
-            core,
-            clock,
-            stage,
-        } = self;
-        if stage.ended {
-            Ok(Board {
-                bus,
-                core,
-                clock,
-                stage: Ready,
-            })
+        if self.stage.ended {
+            Ok(self.at(Ready))
         } else {
             Err(Refused {
                 refusal: Refusal::NoEndRecord,
-                back: Board {
-                    bus,
-                    core,
-                    clock,
-                    stage,
-                },
+                back: self,
             })
         }
     }

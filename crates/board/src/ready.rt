@@ -43,26 +43,15 @@ impl<B: Bus, C: Core> Board<B, C, Ready> {
     pub fn reset(self) -> Board<B, C, Live>
         ensures { situation B.cells result ≡ reset_of (situation B.cells self) }
     {
-        let Board {
-            mut bus,
-            core,
-            clock,
-            stage: Ready,
-        } = self;
-        let (pc, standing) = match read_word(&mut bus, RESET_VECTOR) {
+        let mut board = self;
+        let (pc, standing) = match read_word(&mut board.bus, RESET_VECTOR) {
             Ok(pc) => (pc, Standing::Running),
             Err(_) => (0, Standing::Halted),
         };
-        let stage = Live {
+        board.at(Live {
             registers: reset_registers(pc),
             standing,
             lines: 0,
-        };
-        Board {
-            bus,
-            core,
-            clock,
-            stage,
-        }
+        })
     }
 }

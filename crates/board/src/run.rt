@@ -12,14 +12,11 @@ use state::live::Live;
 // The most steps of a run.
 const MOST_STEPS: u32 = 65_535;
 
-// The number of the refusal that ended a run; 0 where its budget was spent.
+// The number of the refusal that ended a run; 0 where its budget was spent. A run's answer is numbers by a rule of the project.
 fn end_number(ended: Option<Refusal>) -> u8
     ensures { result ≡ end_number ended }
 {
-    match ended {
-        Some(refusal) => u8::from(refusal),
-        None => 0,
-    }
+    ended.map_or(0, u8::from)
 }
 
 impl<B: Bus, C: Core> Board<B, C, Live> {

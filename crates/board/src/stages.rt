@@ -1,4 +1,4 @@
-// The stages of a board's life before it is live; a live board's stage is what a live machine holds, `state::live::Live`.
+// The stages of a board's life before it is live. A live board's stage is what a live machine holds.
 
 // No image yet.
 #[derive(Clone, Copy)]

@@ -42,7 +42,7 @@ fn return_from_interrupt<B: Bus>(processor: &mut Processor<'_, B>) -> Result<(),
     Ok(())
 }
 
-// Goes back from a subroutine or an interrupt.
+// Goes back from a subroutine or an interrupt. The kinds are closed: an arm each is plainer than a table.
 pub fn go_back<B: Bus>(processor: &mut Processor<'_, B>, way: Return) -> Result<(), Fault>
     ensures { Performs B.cells (returned way) processor.old result processor.new }
 {

@@ -17,7 +17,7 @@ fn push<B: Bus>(processor: &mut Processor<'_, B>, byte: u8) -> Result<(), Fault>
     Ok(())
 }
 
-// Pushes a register, or pulls it. No flag changes.
+// Pushes a register, or pulls it. No flag changes. The kinds are closed: an arm each is plainer than a table.
 pub fn use_stack<B: Bus>(
     processor: &mut Processor<'_, B>,
     operation: StackOperation,

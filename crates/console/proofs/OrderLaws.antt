@@ -1,9 +1,8 @@
 -- How an order and its number are read. Assumes nothing.
-use Rattle.std.proofs.Common.{◌≡◌, ℕ, ◌+◌, ◌-◌, ◌*◌, ◌/◌, ◌%◌, ◌^◌, ◌<◌, ◌≤◌, Bool, true, false, cond, ◌&&◌, leb, List, [], ◌∷◌, ◌++◌, length, get_or, take, drop, Some, None, Option, Ok, Err, Result, unwrap_or, refl, rules, sym, ⊎_elim, ap, ◌∙◌, arith}
+use Rattle.std.proofs.Common.{◌≡◌, ℕ, ◌+◌, ◌-◌, ◌*◌, ◌/◌, ◌%◌, ◌^◌, ◌<◌, ◌≤◌, Bool, true, false, cond, ◌&&◌, leb, List, [], ◌∷◌, ◌++◌, length, Some, None, Option, Ok, Err, Result, unwrap_or, refl, rules, sym, ⊎_elim, ap, ◌∙◌, arith}
 use Rattle.std.specs.Fmt as written
 use Rattle.std.proofs.lemmas.Fmt.{decimal_by_steps, IsAscii-from_digits}
-use Rattle.std.proofs.lemmas.List.{take_rest}
-use Rattle.std.proofs.lemmas.Bool.{eq-eqb, le-leb, lt-leb, cases_lt, and_from, cond-true, cond-false}
+use Rattle.std.proofs.lemmas.Bool.{le-leb, lt-leb, cases_lt, and_from, cond-true, cond-false}
 use Rattle.std.specs.Char.{is_ascii_digit}
 use Rattle.std.specs.List.{list_all}
 use Rattle.std.specs.Result.{OkIff, result_ok}
@@ -12,15 +11,8 @@ use Rattle.std.specs.Str.Parse.{ParsesUnsigned}
 use Rattle.std.proofs.lemmas.Str.{IsUtf8-from_ascii}
 use Rattle.std.proofs.lemmas.Str.Parse.{IsDigitsTest, IsNumeralModel, numerals_by_fold, parse_digits, digits_value_short}
 use Rattle.console.specs.Column.{decimal}
-use Rattle.console.specs.Order.{digits_value, number_of, beside, parts_of}
+use Rattle.console.specs.Order.{digits_value, number_of}
 use Rattle.console.proofs.ColumnLaws.{decimal_is}
-
--- a line with a blank after its letter
-pub parts_is : (line : List ℕ) → get_or line 1 0 ≡ 32 → parts_of line ≡ beside (get_or line 0 0) (number_of (take (length line - 2) (drop 2 line)))
-parts_is [] e = absurd (omega arith)
-parts_is (letter ∷ []) e = absurd (omega arith)
-parts_is (letter ∷ blank ∷ digits) e =
-    cond-true _ _ _ (eq-eqb blank 32 e) ∙ ap (λ ds. beside letter (number_of ds)) (sym (take_rest (letter ∷ blank ∷ digits) 2))
 
 -- what a text of digits reads as, and 0 for any other
 value_or_zero : ℕ → List ℕ → ℕ

@@ -4,7 +4,8 @@ ghost use Rattle.console.specs.First.{core_of};
 
 use isa::model::Model;
 
-// The core that the first line names: one letter, and nothing beside it. `Model` is of another crate, so that this is no `TryFrom`.
+// The core that the first line names: one letter, and nothing beside it. `Model` is of another crate: a
+// `TryFrom` would need a type round it, which is no plainer.
 pub fn core_name(line: &[u8]) -> Option<Model>
     ensures { result ≡ core_of line.now }
 {

@@ -45,7 +45,7 @@ fn letter_and_number(line: &[u8]) -> Option<(u8, u32)>
     Some((*letter, count))
 }
 
-// The order that a line is: a capital letter, one blank and a number.
+// The order that a line is: a capital letter, one blank and a number. A letter an arm is plainer than a table.
 impl TryFrom<&[u8]> for Order {
     type Error = NotUnderstood;
 

@@ -19,7 +19,7 @@ pub fn is_taken(condition: Condition, flags: Flags, lines: u32) -> bool
     holds(condition, flags, lines)
 }
 
-// Whether the flags, or line 2, meet a condition.
+// Whether the flags, or line 2, meet a condition. The kinds are closed: an arm each is plainer than a table.
 fn holds(condition: Condition, flags: Flags, lines: u32) -> bool
     ensures { result ≡ taken condition flags lines }
 {
@@ -57,7 +57,7 @@ pub fn branch_where(condition: Condition, target: u16, lines: u32, registers: &m
 }
 
 // Goes on at a signed offset from the next instruction.
-pub fn branch_by(offset: u8, registers: &mut Registers)
+pub fn go_by(offset: u8, registers: &mut Registers)
     ensures { registers.new ≡ branched_by true offset registers.old }
 {
     registers.pc = displaced(registers.pc, offset);

@@ -8,7 +8,7 @@ use alu::sums::{add, subtract};
 use isa::operation::RegisterMemory;
 use state::registers::Registers;
 
-// After CMP and CPX the flags order A, or X, and the byte. The kinds are closed: a match that the checker sees whole is plainer than a table of functions.
+// After CMP and CPX the flags order A, or X, and the byte. The kinds are closed: an arm each is plainer than a table.
 pub fn combine(operation: RegisterMemory, byte: u8, registers: &mut Registers)
     ensures value { registers.new ≡ combined operation byte registers.old }
     ensures compared { ComparesByte operation byte registers.old registers.new.flags }

@@ -2,7 +2,7 @@
 ghost use Rattle.std.specs.Prelude.{◌≡◌};
 ghost use Rattle.effects.specs.Compare.{branched_where_a};
 
-use crate::branch::branch_by;
+use crate::branch::go_by;
 use crate::pointers::go_on;
 use isa::row::Mode;
 use state::registers::Registers;
@@ -14,6 +14,6 @@ pub fn branch_where_a_is(byte: u8, offset: u8, mode: Mode, registers: &mut Regis
     let equal = registers.a == byte;
     go_on(mode, registers);
     if equal {
-        branch_by(offset, registers);
+        go_by(offset, registers);
     }
 }

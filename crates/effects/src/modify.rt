@@ -8,7 +8,7 @@ use alu::shifts::{arithmetic_shift_right, rotate_left, rotate_right, shift_left,
 use alu::unary::{clear, complement, decrement, increment, negate};
 use isa::operation::ReadModifyWrite;
 
-// The byte and the flags that an operation makes of a byte. The kinds are closed: a match that the checker sees whole is plainer than a table of functions.
+// The byte and the flags that an operation makes of a byte. The kinds are closed: an arm each is plainer than a table.
 pub fn modify(operation: ReadModifyWrite, byte: u8, flags: Flags) -> (u8, Flags)
     ensures { result ≡ modified operation byte flags }
 {

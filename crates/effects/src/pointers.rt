@@ -7,7 +7,7 @@ use isa::operation::Pointer;
 use isa::row::Mode;
 use state::registers::Registers;
 
-// Moves a pointer by a signed byte.
+// Moves a pointer by a signed byte. The kinds are closed: an arm each is plainer than a table.
 pub fn displace(pointer: Pointer, offset: u8, registers: &mut Registers)
     ensures { registers.new ≡ displacing pointer offset registers.old }
 {
@@ -17,7 +17,7 @@ pub fn displace(pointer: Pointer, offset: u8, registers: &mut Registers)
     }
 }
 
-// H:X goes on by 1, in the modes that say so.
+// H:X goes on by 1, in the modes that say so. The kinds are closed: an arm each is plainer than a table.
 pub fn go_on(mode: Mode, registers: &mut Registers)
     ensures { registers.new ≡ went_on mode registers.old }
 {

@@ -31,7 +31,7 @@ fn quotient(registers: &mut Registers)
     registers.flags = flags;
 }
 
-// The kinds are closed: a match that the checker sees whole is plainer than a table of functions.
+// What an operation on registers and flags alone leaves. The kinds are closed: an arm each is plainer than a table.
 pub fn register_only(operation: RegisterOnly, registers: &mut Registers)
     ensures { registers.new ≡ registered operation registers.old }
 {

@@ -5,7 +5,7 @@ ghost use Rattle.flow.specs.Compare.{compared_immediate, compared_operand, branc
 use access::cells::read_cell;
 use access::fault::Fault;
 use bus::traits::Bus;
-use effects::branch::branch_by;
+use effects::branch::go_by;
 use effects::compare::branch_where_a_is;
 use isa::operation::CompareBranch;
 use operands::address::Operand;
@@ -22,7 +22,7 @@ fn compare_immediate<B: Bus>(
     let byte = read_cell(processor.bus, operand.bytes)?;
     let offset = read_cell(processor.bus, operand.bytes.wrapping_add(1))?;
     if register == byte {
-        branch_by(offset, processor.registers);
+        go_by(offset, processor.registers);
     }
     Ok(())
 }
@@ -37,7 +37,7 @@ fn compare_operand<B: Bus>(processor: &mut Processor<'_, B>, operand: Operand) -
     Ok(())
 }
 
-// Branches where A, or X, equals the operand.
+// Branches where A, or X, equals the operand. The kinds are closed: an arm each is plainer than a table.
 pub fn branch_where_equal<B: Bus>(
     processor: &mut Processor<'_, B>,
     operation: CompareBranch,

@@ -6,7 +6,7 @@ ghost use Rattle.flow.specs.Loops.{until_zero, cell_decremented, counted, decrem
 use access::cells::{read_cell, store_cell};
 use access::fault::Fault;
 use bus::traits::Bus;
-use effects::branch::branch_by;
+use effects::branch::go_by;
 use operands::address::{Home, Operand};
 use operands::processor::Processor;
 use state::registers::Registers;
@@ -16,7 +16,7 @@ fn branch_until_zero(left: u8, offset: u8, registers: &mut Registers)
     ensures { registers.new ≡ until_zero left offset registers.old }
 {
     if left != 0 {
-        branch_by(offset, registers);
+        go_by(offset, registers);
     }
 }
 
@@ -34,7 +34,8 @@ fn decrement_cell<B: Bus>(
     Ok(())
 }
 
-// Takes 1 from A, X or the byte at an address, and branches where something is left.
+// Takes 1 from A, X or the byte at an address, and branches where something is left. A place an arm: A and X are two fields, and
+// a function over either would borrow it out of the registers that the branch changes.
 fn decrement<B: Bus>(
     processor: &mut Processor<'_, B>,
     home: Home,

@@ -17,12 +17,12 @@ use Rattle.isa.specs.Timing.{figures}
 
 -- a line of changes of A or of X, but for two places
 abbrev pub changing : Mode → Place → Place → List Place
-changing m at-2 at_5 =
-    rmw Neg m ∷ ·· ∷ at-2 ∷ rmw Com m ∷ rmw Lsr m ∷ at_5 ∷ rmw Ror m ∷ rmw Asr m ∷ rmw Lsl m ∷ rmw Rol m ∷ rmw Dec m ∷ ·· ∷ rmw Inc m ∷ rmw Tst m ∷ ·· ∷ rmw Clr m ∷ []
+changing m at_2 at_5 =
+    rmw Neg m ∷ ·· ∷ at_2 ∷ rmw Com m ∷ rmw Lsr m ∷ at_5 ∷ rmw Ror m ∷ rmw Asr m ∷ rmw Lsl m ∷ rmw Rol m ∷ rmw Dec m ∷ ·· ∷ rmw Inc m ∷ rmw Tst m ∷ ·· ∷ rmw Clr m ∷ []
 
 -- a line that is blank but for two places
 abbrev pub adjusting : Place → Place → List Place
-adjusting at-2 at_5 = ·· ∷ ·· ∷ at-2 ∷ ·· ∷ ·· ∷ at_5 ∷ ·· ∷ ·· ∷ ·· ∷ ·· ∷ ·· ∷ ·· ∷ ·· ∷ ·· ∷ ·· ∷ ·· ∷ []
+adjusting at_2 at_5 = ·· ∷ ·· ∷ at_2 ∷ ·· ∷ ·· ∷ at_5 ∷ ·· ∷ ·· ∷ ·· ∷ ·· ∷ ·· ∷ ·· ∷ ·· ∷ ·· ∷ ·· ∷ ·· ∷ []
 
 -- $80 to $8F: control
 abbrev pub first_line_8 : Own → List Place

@@ -76,12 +76,12 @@ module _ (cycles : Operation → Mode → ℕ) where
       lawful page (place (lines page) opcode) row (occurs page opcode) (timed_place lines t page opcode) e
 
 -- the law of the CPU08's rows
-cpu08_lawful : (page : Page) (opcode : ℕ) (row : Row) → cpu08_table page opcode ≡ Some row → LawfulRow page row
+pub cpu08_lawful : (page : Page) (opcode : ℕ) (row : Row) → cpu08_table page opcode ≡ Some row → LawfulRow page row
 cpu08_lawful =
     rows_lawful (λ o m. (figures o m).cpu08) (page_of (λ p. ··)) tt (λ page opcode p at. (page, opcode, inl at))
 
 -- the law of the HCS08's rows
-hcs08_lawful : (page : Page) (opcode : ℕ) (row : Row) → hcs08_table page opcode ≡ Some row → LawfulRow page row
+pub hcs08_lawful : (page : Page) (opcode : ℕ) (row : Row) → hcs08_table page opcode ≡ Some row → LawfulRow page row
 hcs08_lawful =
     rows_lawful (λ o m. (figures o m).hcs08) (page_of (λ p. p)) tt (λ page opcode p at. (page, opcode, inr at))
 

@@ -8,7 +8,7 @@ ghost use Rattle.isa.specs.declared.row.Page.TheVariants.{First, Second};
 use crate::row::{Page, Place};
 use crate::{first_page, second_page};
 
-// The first page holds the rows of both cores' tables, at every opcode.
+// The first page holds the rows of both cores' tables, at every opcode. Tried as one function over the page: the goals of both pages stayed open.
 fn first_places() -> &'static [Place; 256]
     ensures cpu08 { rows_on Cpu08 result.now ≡ listed (cpu08_table First) }
     ensures hcs08 { rows_on Hcs08 result.now ≡ listed (hcs08_table First) }

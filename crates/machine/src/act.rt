@@ -26,7 +26,8 @@ use rewrites::modify::modify_operand;
 use rewrites::moves::move_byte;
 use state::standing::Standing;
 
-// The program counter is already at the next instruction. The kinds are closed: a match that the checker sees whole is plainer than a table of functions.
+// The program counter is already at the next instruction. The kinds are closed: an arm each is plainer than a table. The processor
+// has the registers: what is left of a live machine stands beside it.
 pub(crate) fn act<B: Bus>(
     processor: &mut Processor<'_, B>,
     operation: Operation,

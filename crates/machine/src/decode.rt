@@ -28,13 +28,12 @@ impl Decoded {
     }
 }
 
+// A row with its operand's place; where there is none, no instruction.
 fn found(row: Option<Row>, operand: u16) -> Result<Decoded, Fault>
     ensures { result ≡ row_found row operand }
 {
-    match row {
-        Some(row) => Ok(Decoded { row, operand }),
-        None => Err(Fault::NoInstruction),
-    }
+    row.map(|row| Decoded { row, operand })
+        .ok_or(Fault::NoInstruction)
 }
 
 // Reads the opcode, behind its prefix if it has one, and finds its row. No core has a row at the prefix itself, so the first page is
@@ -44,14 +43,10 @@ pub(crate) fn decode<B: Bus, C: Core>(bus: &mut B, core: &C, pc: u16) -> Result<
 {
     let opcode = read_cell(bus, pc)?;
     match core.row(Page::First, opcode) {
-        Some(row) => Ok(Decoded {
-            row,
-            operand: pc.wrapping_add(1),
-        }),
         None if opcode == PREFIX => {
             let second = read_cell(bus, pc.wrapping_add(1))?;
             found(core.row(Page::Second, second), pc.wrapping_add(2))
         }
-        None => Err(Fault::NoInstruction),
+        row => found(row, pc.wrapping_add(1)),
     }
 }

@@ -15,7 +15,8 @@ use state::live::Live;
 use state::registers::Registers;
 use state::standing::Standing;
 
-// Finds the operand, and does the operation. The program counter is already at the next instruction.
+// Finds the operand, and does the operation. The program counter is already at the next instruction. The processor has the
+// registers: what is left of a live machine stands beside it.
 fn operate<B: Bus>(
     processor: &mut Processor<'_, B>,
     decoded: Decoded,
@@ -42,7 +43,7 @@ fn operate<B: Bus>(
 fn move_on(decoded: Decoded, registers: &mut Registers)
     ensures { registers.new ≡ moved_on decoded registers.old }
 {
-    registers.pc = registers.pc.wrapping_add(decoded.row.bytes as u16);
+    registers.pc = registers.pc.wrapping_add(u16::from(decoded.row.bytes));
 }
 
 // Moves the program counter on and carries the instruction out, at the row's cycles. A fault puts the program counter back.

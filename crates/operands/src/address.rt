@@ -29,7 +29,7 @@ pub enum Home {
 }
 
 impl Operand {
-    // Where the byte stands that follows the operand's address.
+    // Where the byte stands that follows the operand's address. The kinds are closed: an arm each is plainer than a table.
     pub fn behind(self) -> u16
         ensures { result ≡ behind self }
     {
@@ -46,7 +46,7 @@ impl Operand {
         }
     }
 
-    // Where the operand lies, by its mode.
+    // Where the operand lies, by its mode. The kinds are closed: an arm each is plainer than a table.
     pub fn home(self) -> Home
         ensures { result ≡ home_of self.mode }
     {
@@ -58,7 +58,7 @@ impl Operand {
     }
 }
 
-// The address of the operand, by the operand bytes that begin at `at`. The program counter is at the next instruction.
+// The address of the operand, by the operand bytes that begin at `at`. The program counter is at the next instruction. The kinds are closed: an arm each is plainer than a table.
 pub fn operand_address<B: Bus>(
     bus: &mut B,
     mode: Mode,

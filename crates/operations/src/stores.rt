@@ -10,7 +10,7 @@ use isa::operation::RegisterStore;
 use operands::processor::Processor;
 use state::registers::Registers;
 
-// The byte that is stored.
+// The byte that is stored. The kinds are closed: an arm each is plainer than a table.
 fn stored_byte(operation: RegisterStore, registers: &Registers) -> u8
     ensures { result ≡ stored_byte operation registers.now }
 {

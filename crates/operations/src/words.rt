@@ -9,7 +9,7 @@ use effects::index::{compare_index, load_index, test_index};
 use isa::operation::WordOperation;
 use operands::processor::Processor;
 
-// Each operation on H:X and a word in memory.
+// Each operation on H:X and a word in memory. The kinds are closed: an arm each is plainer than a table.
 pub fn word_operation<B: Bus>(
     processor: &mut Processor<'_, B>,
     operation: WordOperation,

@@ -15,7 +15,7 @@ use operands::address::{Home, Operand};
 use operands::processor::Processor;
 use state::registers::Registers;
 
-// The byte in memory that is changed. CLR reads nothing.
+// The byte in memory that is changed. CLR reads nothing. The kinds are closed: an arm each is plainer than a table.
 fn read_operand<B: Bus>(bus: &mut B, operation: ReadModifyWrite, address: u16) -> Result<u8, Fault>
     ensures { (result, B.cells bus.new) ≡ perform (cell_read operation address) (B.cells bus.old) }
 {
@@ -25,7 +25,7 @@ fn read_operand<B: Bus>(bus: &mut B, operation: ReadModifyWrite, address: u16) -
     }
 }
 
-// Puts the byte in memory back. TST stores nothing.
+// Puts the byte in memory back. TST stores nothing. The kinds are closed: an arm each is plainer than a table.
 fn store_operand<B: Bus>(
     bus: &mut B,
     operation: ReadModifyWrite,
@@ -40,7 +40,8 @@ fn store_operand<B: Bus>(
     }
 }
 
-// The byte that is changed.
+// The byte that is changed. A place an arm is plainer than a table. Each of the four functions below takes the operation and its
+// operand: two values of one call.
 fn read_byte<B: Bus>(
     bus: &mut B,
     operation: ReadModifyWrite,
@@ -56,7 +57,7 @@ fn read_byte<B: Bus>(
     }
 }
 
-// Puts the byte back where it came from.
+// Puts the byte back where it came from. A place an arm is plainer than a table.
 fn put_byte<B: Bus>(
     processor: &mut Processor<'_, B>,
     operation: ReadModifyWrite,

@@ -58,7 +58,7 @@ fn move_from_index<B: Bus>(processor: &mut Processor<'_, B>, operand: Operand) -
     Ok(())
 }
 
-// Moves a byte, in the four modes of MOV.
+// Moves a byte, in the four modes of MOV. The kinds are closed: an arm each is plainer than a table.
 pub fn move_byte<B: Bus>(processor: &mut Processor<'_, B>, operand: Operand) -> Result<(), Fault>
     ensures { Performs B.cells (byte_moved operand) processor.old result processor.new }
 {

@@ -15,7 +15,7 @@ use console::row::RegisterRow;
 use isa::core08::Core;
 use state::live::Live;
 
-// Carries out the order that a line is.
+// Carries out the order that a line is. The kinds are closed: an arm each is plainer than a table.
 fn obey<B: Bus, C: Core>(board: &mut Board<B, C, Live>, line: &[u8]) -> Result<Ran, Declined>
     ensures { (result, situation B.cells board.new) ≡ obeyed C.table C.entry_figure (order_of line.now) (situation B.cells board.old) }
 {

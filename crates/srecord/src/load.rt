@@ -14,7 +14,8 @@ use bus::traits::Bus;
 // Addresses end below this.
 const MEMORY_SIZE: usize = 65536;
 
-// Takes a line: stores the data of a data record, and sets `ended` at an end record. A refused line changes nothing.
+// Takes a line: stores the data of a data record, and sets `ended` at an end record. A refused line changes nothing. No value goes
+// with `ended`: it is all that is kept of the lines so far.
 pub fn take_line<B: Bus>(bus: &mut B, ended: &mut bool, line: &[u8]) -> Result<(), LineRefusal>
     ensures answer { result ≡ (line_taken ended.old (B.cells bus.old) line.now).answer }
     ensures ending { ended.new ≡ (line_taken ended.old (B.cells bus.old) line.now).is_ended }
@@ -70,7 +71,7 @@ fn require_open<B: Bus>(bus: &B, address: u16, count: usize) -> Result<(), LineR
     Ok(())
 }
 
-// Refuses a cell that is not open.
+// Refuses a cell that is not open. An open cell has no refusal, so that a class converts to none by itself.
 fn require_open_cell<B: Bus>(bus: &B, address: u16) -> Result<(), LineRefusal>
     ensures { result ≡ open_answer address (store_answer (B.cells bus.now address)) }
 {

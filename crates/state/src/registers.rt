@@ -25,7 +25,7 @@ impl Registers {
         word(self.h, self.x)
     }
 
-    // Keeps what an operation left for A and the flags.
+    // Keeps what an operation left for A and the flags. The three functions name a field each: a fourth over any field would borrow it.
     pub fn put_a(&mut self, outcome: (u8, Flags))
         ensures { self.new ≡ with_a outcome self.old }
     {

@@ -1,5 +1,5 @@
 -- A sequence of trees is carried out one after the other.
-use Rattle.std.proofs.Common.{◌≡◌, ℕ, Ok, Err, Result, sym, refl, ap, ◌∙◌}
+use Rattle.std.proofs.Common.{◌≡◌, ℕ, Ok, Err, Result, refl}
 use Rattle.bus.specs.Cell.{Cell, Cells, open_cell, guarded_cell, missing_cell, stored}
 use Rattle.access.specs.declared.fault.Fault.{Fault}
 use Rattle.access.specs.declared.fault.Fault.TheVariants.{MissingCell}
@@ -24,14 +24,3 @@ module _ {X Y : Type 0} (f : X → Access Y) where
   sequenced fail m = refl
   sequenced (read a k) m = accessed (m a) m _ _ (λ b. sequenced (k b) m)
   sequenced (store a b t) m = accessed (m a) m _ _ (λ _. sequenced t (stored m a b))
-
-  module _ {Z : Type 0} (g : Result Y Fault × Cells → Z) (t : Access X) (m : Cells) {m' : Cells} {r : Result X Fault} where
-    -- after a tree that answered, what follows tells what comes of both
-    pub after_ok : {x : X} {z : Z} → (r, m') ≡ perform t m → r ≡ Ok x → z ≡ g (perform (f x) m') → z ≡ g (perform (t >>= f) m)
-    after_ok e is rest =
-        rest ∙ ap g (sym (sequenced t m ∙ ap (λ (p : Result X Fault × Cells). and_then p f) (sym e) ∙ ap (λ (q : Result X Fault). and_then (q, m') f) is))
-
-    -- a fault that ended a tree ends both
-    pub after_err : {fault : Fault} {z : Z} → (r, m') ≡ perform t m → r ≡ Err fault → z ≡ g (Err fault, m') → z ≡ g (perform (t >>= f) m)
-    after_err e is rest =
-        rest ∙ ap g (sym (sequenced t m ∙ ap (λ (p : Result X Fault × Cells). and_then p f) (sym e) ∙ ap (λ (q : Result X Fault). and_then (q, m') f) is))

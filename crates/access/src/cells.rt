@@ -18,8 +18,7 @@ pub fn store_cell<B: Bus>(bus: &mut B, address: u16, byte: u8) -> Result<(), Fau
     ensures { (result, B.cells bus.new) ≡ perform (store address byte (done tt)) (B.cells bus.old) }
 {
     match bus.store(address, byte) {
-        Ok(()) => Ok(()),
-        Err(BusRefusal::GuardedCell) => Ok(()),
+        Ok(()) | Err(BusRefusal::GuardedCell) => Ok(()),
         Err(BusRefusal::MissingCell) => Err(Fault::MissingCell),
     }
 }

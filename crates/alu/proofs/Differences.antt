@@ -101,7 +101,6 @@ module _ (w a b : ℕ) (borrow : Bool) (wide : 0 < w) (x : a < 2 ^ w) (y : b < 2
   cut_at n h = cut half (2 ^ w) some (double w wide) n h (cases_lt n half)
 
   overflow : not (beq (ltb (a % half) (b % half + bit borrow)) carry) ≡ difference_overflows w a b borrow
-  unfolding difference_overflows
   overflow =
       not_same (ltb (a % half) (b % half + bit borrow)) carry
       ∙ borrows_unlike half a b (a % half) (b % half) _ _ (mod_below a half some) (mod_below b half some) (bit borrow) (bit_small borrow) (cut_at a x) (cut_at b y)
@@ -117,18 +116,21 @@ module _ (w a b : ℕ) (borrow : Bool) (wide : 0 < w) (x : a < 2 ^ w) (y : b < 2
   zero_at_equal r (inl p) = grind (arith, nat_tests)
   zero_at_equal r (inr p) = grind (arith, nat_tests)
 
-  module _ (f : Flags) (p : ℕ × Flags) (e : p ≡ difference_of w a b borrow f) where
-    pub whole : 2 ^ w * bit p.1.c + a ≡ p.0 + b + bit borrow
-    whole = rw e (carried less)
+  module _ (f after : Flags) (result : ℕ) (e : (result, after) ≡ difference_of w a b borrow f) where
+    flagged : after ≡ (difference_of w a b borrow f).1
+    flagged = ap (λ (p : ℕ × Flags). p.1) e
 
-    pub compared : borrow ≡ false → Compared w a b p.1
+    pub whole : 2 ^ w * bit after.c + a ≡ result + b + bit borrow
+    whole = rw (flagged, ap (λ (p : ℕ × Flags). p.0) e) (carried less)
+
+    pub compared : borrow ≡ false → Compared w a b after
     compared none =
         let no_borrow : bit borrow ≡ 0 = ap bit none in
         let as_one : b + bit borrow ≡ b = omega arith in
         let apart : Less (2 ^ w) a b (difference w a b borrow) = subst (λ (s : ℕ). Less (2 ^ w) a s (difference w a b borrow)) as_one less in
         let small = mod_below (2 ^ w + a - (b + bit borrow)) (2 ^ w) (pow_pos w) in
         let top = top_bit half (2 ^ w) some (double w wide) (difference w a b borrow) small (cases_lt (difference w a b borrow) half) in
-        rw e
+        rw flagged
         (record {
           below = ap (ltb a) as_one;
           equal = zero_at_equal (difference w a b borrow) apart;
@@ -143,13 +145,14 @@ one_shifted w k e narrow = one_shl k 64 (omega arith) ∙ ap (λ (n : ℕ). 2 ^ 
 
 -- V as the code finds it, with the half as it shifts that
 pub borrows_differ :
-    (w bits a b : ℕ) (borrow : Bool)
+    (w bits a b less : ℕ) (borrow : Bool)
     → bits ≡ w
+    → less ≡ bool_byte borrow
     → 0 < w
     → w ≤ 32
     → a < 2 ^ w
     → b < 2 ^ w
-    → not (beq (ltb (a % (1 * 2 ^ (bits - 1) % 18446744073709551616)) (b % (1 * 2 ^ (bits - 1) % 18446744073709551616) + bool_byte borrow)) (ltb a (b + bool_byte borrow))) ≡ difference_overflows w a b borrow
-borrows_differ w bits a b borrow width has narrow x y =
+    → not (beq (ltb (a % (1 * 2 ^ (bits - 1) % 18446744073709551616)) (b % (1 * 2 ^ (bits - 1) % 18446744073709551616) + less)) (ltb a (b + less))) ≡ difference_overflows w a b borrow
+borrows_differ w bits a b less borrow width taken has narrow x y =
     let one = one_shl (w - 1) 64 (omega arith) in
-    rw (width, flag_byte borrow, one) (overflow w a b borrow has x y)
+    rw (width, taken ∙ flag_byte borrow, one) (overflow w a b borrow has x y)

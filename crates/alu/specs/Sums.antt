@@ -29,7 +29,7 @@ abbrev pub difference : ℕ → ℕ → ℕ → Bool → ℕ
 difference w a b borrow = (2 ^ w + a - (b + bit borrow)) % 2 ^ w
 
 -- whether the signed difference, less the borrow, does not fit
-unfoldable pub difference_overflows : ℕ → ℕ → ℕ → Bool → Bool
+abbrev pub difference_overflows : ℕ → ℕ → ℕ → Bool → Bool
 difference_overflows w a b borrow = not (fits_in w (signed_value w a -ℤ signed_value w b -ℤ pos (bit borrow)))
 
 -- the difference, with V: the signed difference does not fit; C: a borrow
@@ -37,7 +37,7 @@ abbrev pub difference_of : ℕ → ℕ → ℕ → Bool → Flags → ℕ × Fla
 difference_of w a b borrow f = (
   difference w a b borrow,
   with_v
-      (not (fits_in w (signed_value w a -ℤ signed_value w b -ℤ pos (bit borrow))))
+      (difference_overflows w a b borrow)
       (with_c (nat_lt a (b + bit borrow)) (with_nz w (difference w a b borrow) f)),
 )
 

@@ -7,6 +7,6 @@ pub fn displaced(address: u16, offset: u8) -> u16
     ensures { result ≡ displaced_by address offset }
 {
     // the offset's signed value, plus 128
-    let lifted = offset.wrapping_add(128) as u16;
+    let lifted = u16::from(offset.wrapping_add(128));
     address.wrapping_add(lifted).wrapping_sub(128)
 }

@@ -11,7 +11,11 @@ pub fn is_bit_set<N: Unsigned>(value: N, place: u32) -> bool
     place < N::BITS && (N::widen(value) >> place) % 2 == 1
 }
 
+// Setting and clearing share the question whether there is such a bit: one function over a flag would ask the flag besides, and then
+// do what these two do.
+
 // The number with a bit set: no other bit changes.
+#[tactic(auto, using(crate::proofs::SingleBits::set_value))]
 pub fn set_bit<N: Unsigned>(value: N, place: u32) -> N
     ensures value { N.number result ≡ with_bit N.BITS (N.number value) place }
     ensures only { place < N.BITS → (other : ℕ) → bit_of N.BITS (N.number result) other ≡ (if nat_eq other place then true else bit_of N.BITS (N.number value) other) }
@@ -24,6 +28,7 @@ pub fn set_bit<N: Unsigned>(value: N, place: u32) -> N
 }
 
 // The number with a bit cleared: no other bit changes.
+#[tactic(auto, using(crate::proofs::SingleBits::clear_value))]
 pub fn clear_bit<N: Unsigned>(value: N, place: u32) -> N
     ensures value { N.number result ≡ without_bit N.BITS (N.number value) place }
     ensures only { place < N.BITS → (other : ℕ) → bit_of N.BITS (N.number result) other ≡ (if nat_eq other place then false else bit_of N.BITS (N.number value) other) }

@@ -11,13 +11,15 @@ pub fn decimal_adjust(a: u8, flags: Flags) -> (u8, Flags)
 {
     let low = adjusts_low(a, flags);
     let high = adjusts_high(a, flags);
-    let result = a.wrapping_add(6 * low as u8 + 0x60 * high as u8);
+    let result = a.wrapping_add(6 * u8::from(low) + 0x60 * u8::from(high));
     let flags = Flags {
         c: high,
         ..flags.with_nz(result)
     };
     (result, flags)
 }
+
+// Two questions of one line: as one function over a number, its limit and a flag, each call would be as long as its question.
 
 // Whether the low digit is above 9, or the sum had a half carry.
 fn adjusts_low(a: u8, flags: Flags) -> bool

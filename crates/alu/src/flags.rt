@@ -1,12 +1,12 @@
 // The six flags of the condition code register.
 ghost use Rattle.std.specs.Prelude.{◌≡◌, ◌+◌};
-ghost use Rattle.alu.specs.Flags.{ccr_byte, ccr_flags, fixed_set, with_nz};
+ghost use Rattle.alu.specs.Flags.{ccr_byte, ccr_flags, fixed_set, with_v, with_nz};
 
 use crate::bits::is_bit_set;
 use crate::unsigned::Unsigned;
 
 // What an instruction tells of its result.
-#[derive(Clone, Copy)]
+#[derive(Clone, Copy, Default, PartialEq, Eq, Debug)]
 pub struct Flags {
     // overflow: the signed result does not fit
     pub v: bool,
@@ -27,12 +27,12 @@ impl Flags {
     fn placed(self) -> u8
         ensures { 64 + 32 + result ≡ ccr_byte self }
     {
-        128 * self.v as u8
-            + 16 * self.h as u8
-            + 8 * self.i as u8
-            + 4 * self.n as u8
-            + 2 * self.z as u8
-            + self.c as u8
+        128 * u8::from(self.v)
+            + 16 * u8::from(self.h)
+            + 8 * u8::from(self.i)
+            + 4 * u8::from(self.n)
+            + 2 * u8::from(self.z)
+            + u8::from(self.c)
     }
 
     // These flags with N and Z of a number.
@@ -45,12 +45,23 @@ impl Flags {
             ..self
         }
     }
+
+    // These flags with V as given, and N and Z of a number.
+    pub(crate) fn with_vnz<N: Unsigned>(self, v: bool, value: N) -> Flags
+        ensures { result ≡ with_v v (with_nz N.BITS (N.number value) self) }
+    {
+        Flags {
+            v,
+            ..self.with_nz(value)
+        }
+    }
 }
 
 impl From<Flags> for u8 {
     ghost from_gives = { λ flags byte. (byte ≡ ccr_byte flags) × (ccr_flags byte ≡ flags) };
 
     // The condition code byte. Bits 6 and 5 are always set.
+    #[tactic(auto, using(crate::proofs::Codes::flags_back))]
     fn from(flags: Flags) -> u8 {
         64 + 32 + flags.placed()
     }

@@ -3,21 +3,20 @@ ghost use Rattle.std.specs.Prelude.{◌≡◌, ◌+◌, ◌*◌, ◌<◌};
 ghost use Rattle.alu.specs.Products.{multiply_of, divide_of};
 
 use crate::flags::Flags;
-use crate::words::{high_byte, low_byte, word};
+use crate::words::word;
 
 // Multiplies two bytes. The product's high byte comes first.
 pub fn multiply(x: u8, a: u8, flags: Flags) -> ((u8, u8), Flags)
     ensures value { result ≡ multiply_of x a flags }
     ensures product { 256 * result.0.0 + result.0.1 ≡ x * a }
 {
-    let product = x as u16 * a as u16;
-    let halves = (high_byte(product), low_byte(product));
+    let [high, low] = (u16::from(x) * u16::from(a)).to_be_bytes();
     let flags = Flags {
         h: false,
         c: false,
         ..flags
     };
-    (halves, flags)
+    ((high, low), flags)
 }
 
 // Divides the word h:a by x. The quotient, which goes to a, comes before the remainder, which goes to h.
@@ -31,7 +30,7 @@ pub fn divide(h: u8, a: u8, x: u8, flags: Flags) -> ((u8, u8), Flags)
         return ((a, h), Flags { c: true, ..flags });
     }
     let dividend = word(h, a);
-    let divisor = x as u16;
+    let divisor = u16::from(x);
     let quotient = (dividend / divisor) as u8;
     let remainder = (dividend % divisor) as u8;
     let flags = Flags {

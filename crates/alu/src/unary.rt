@@ -4,19 +4,15 @@ ghost use Rattle.alu.specs.Sums.{signed_value, fits_in};
 ghost use Rattle.alu.specs.Unary.{increment_of, decrement_of, negate_of, complement_of, clear_of, swapped};
 
 use crate::flags::Flags;
-use crate::logic::test;
+use crate::logic::{test, with_overflow};
+use crate::sums::subtract;
 
-// One more. C keeps. A function that it shared with `decrement` would take the step and the limit, and be longer than both.
+// One more. C keeps.
 pub fn increment(byte: u8, flags: Flags) -> (u8, Flags)
     ensures value { result ≡ increment_of byte flags }
     ensures overflow { result.1.v ≡ not (fits_in 8 (signed_value 8 byte +ℤ pos 1)) }
 {
-    let result = byte.wrapping_add(1);
-    let flags = Flags {
-        v: byte == 0x7f,
-        ..flags.with_nz(result)
-    };
-    (result, flags)
+    with_overflow(byte.wrapping_add(1), byte == 0x7f, flags)
 }
 
 // One less. C keeps.
@@ -24,12 +20,7 @@ pub fn decrement(byte: u8, flags: Flags) -> (u8, Flags)
     ensures value { result ≡ decrement_of byte flags }
     ensures overflow { result.1.v ≡ not (fits_in 8 (signed_value 8 byte -ℤ pos 1)) }
 {
-    let result = byte.wrapping_sub(1);
-    let flags = Flags {
-        v: byte == 0x80,
-        ..flags.with_nz(result)
-    };
-    (result, flags)
+    with_overflow(byte.wrapping_sub(1), byte == 0x80, flags)
 }
 
 // Takes the byte from 0.
@@ -37,22 +28,17 @@ pub fn negate(byte: u8, flags: Flags) -> (u8, Flags)
     ensures value { result ≡ negate_of byte flags }
     ensures overflow { result.1.v ≡ not (fits_in 8 (neg_ℤ (signed_value 8 byte))) }
 {
-    let result = byte.wrapping_neg();
-    let flags = Flags {
-        v: result == 0x80,
-        c: result != 0,
-        ..flags.with_nz(result)
-    };
-    (result, flags)
+    subtract(0, byte, false, flags)
 }
 
-// `complement` and `clear` are one line each over `test`, which is what they share.
+// `complement` and `clear` are one call of `test` each: a function of both would be called with `!byte, true` and `0, flags.c`,
+// which is no shorter.
 
 // Turns every bit.
 pub fn complement(byte: u8, flags: Flags) -> (u8, Flags)
     ensures { result ≡ complement_of byte flags }
 {
-    test(255 - byte, Flags { c: true, ..flags })
+    test(!byte, Flags { c: true, ..flags })
 }
 
 // Zero in the place of the byte. C keeps.

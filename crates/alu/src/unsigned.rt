@@ -26,6 +26,9 @@ pub trait Unsigned: Copy {
     ghost at_most_32_bits: { BITS ≤ 32 };
 }
 
+// The three widths differ in their type and its constants alone: the gate takes no impl that a macro of this repository writes.
+// `as` asks that the number fits, so the bits above the width are cut first.
+
 impl Unsigned for u8 {
     ghost BITS = { 8 };
 
@@ -34,7 +37,7 @@ impl Unsigned for u8 {
     const BITS: u32 = 8;
 
     fn widen(byte: u8) -> u64 {
-        byte as u64
+        u64::from(byte)
     }
 
     fn truncate(wide: u64) -> u8 {
@@ -54,7 +57,7 @@ impl Unsigned for u16 {
     const BITS: u32 = 16;
 
     fn widen(word: u16) -> u64 {
-        word as u64
+        u64::from(word)
     }
 
     fn truncate(wide: u64) -> u16 {
@@ -74,7 +77,7 @@ impl Unsigned for u32 {
     const BITS: u32 = 32;
 
     fn widen(value: u32) -> u64 {
-        value as u64
+        u64::from(value)
     }
 
     fn truncate(wide: u64) -> u32 {

@@ -14,7 +14,7 @@ pub struct Board<B, C, S> {
 }
 
 impl<B, C, S: Copy> Board<B, C, S> {
-    // The same board at another stage.
+    // The same board at another stage. It is taken apart, since `..self` would keep the type of the stage.
     pub(crate) fn at<T>(self, stage: T) -> Board<B, C, T>
         ensures { result ≡ record { bus = self.bus; core = self.core; clock = self.clock; stage = stage } }
     {

@@ -22,7 +22,8 @@ fn require_line(line: u32) -> Result<(), Refusal>
     }
 }
 
-// Raising and dropping differ in the one call that changes the set: a parameter for it would need a contract of its own.
+// Raising and dropping are two calls by a rule of the project, which names each call of a board. They are three lines each, alike but
+// for the one that changes the set.
 impl<B: Bus, C: Core> Board<B, C, Live> {
     // Raises a line from 2 to 31.
     pub fn raise_line(&mut self, line: u32) -> Result<(), Refusal>

@@ -14,23 +14,20 @@ use state::live::Live;
 use state::standing::Standing;
 
 impl<B: Bus, C: Core> Board<B, C, Live> {
-    // Takes a step, and answers its cycles. By a rule of the project it matches the standing together with the pending lines, so that a
-    // request is entered in two arms.
+    // Takes a step, and answers its cycles. By a rule of the project it matches the standing together with the pending lines.
     pub fn step(&mut self) -> Result<u8, Refusal>
         ensures { (result, situation B.cells self.new) ≡ step_taken C.table C.entry_figure (situation B.cells self.old) }
     {
-        let cycles = match (self.stage.standing, self.stage.lines != 0) {
-            (Standing::Halted, _) => return Err(Refusal::BoardHalted),
+        let masked = self.stage.registers.flags.i;
+        let cycles = match (self.stage.standing, self.stage.lines != 0, masked) {
+            (Standing::Halted, _, _) => return Err(Refusal::BoardHalted),
             _ if self.clock > CLOCK_LIMIT => return Err(Refusal::ClockPastLimit),
-            (Standing::Stopped, false) => return Err(Refusal::StoppedWithoutLine),
-            (Standing::Waiting | Standing::Stopped, true) => {
+            (Standing::Stopped, false, _) => return Err(Refusal::StoppedWithoutLine),
+            (Standing::Waiting | Standing::Stopped, true, _) | (Standing::Running, true, false) => {
                 enter(&mut self.bus, &self.core, &mut self.stage)
             }
-            (Standing::Running, true) if !self.stage.registers.flags.i => {
-                enter(&mut self.bus, &self.core, &mut self.stage)
-            }
-            (Standing::Waiting, false) => Ok(1),
-            (Standing::Running, _) => execute(&mut self.bus, &self.core, &mut self.stage),
+            (Standing::Waiting, false, _) => Ok(1),
+            (Standing::Running, _, _) => execute(&mut self.bus, &self.core, &mut self.stage),
         };
         Ok(self.count(cycles))
     }

@@ -21,34 +21,27 @@ fn reset_registers(pc: u16) -> Registers
     ensures { result ≡ reset_registers pc }
 {
     let flags = Flags {
-        v: false,
-        h: false,
         i: true,
-        n: false,
-        z: false,
-        c: false,
+        ..Flags::default()
     };
     Registers {
-        a: 0,
-        h: 0,
-        x: 0,
         sp: 0x00FF,
         pc,
         flags,
+        ..Registers::default()
     }
 }
 
 impl<B: Bus, C: Core> Board<B, C, Ready> {
     // Starts at the reset vector with all lines dropped; halts where the vector is missing.
-    pub fn reset(self) -> Board<B, C, Live>
+    pub fn reset(mut self) -> Board<B, C, Live>
         ensures { situation B.cells result ≡ reset_of (situation B.cells self) }
     {
-        let mut board = self;
-        let (pc, standing) = match read_word(&mut board.bus, RESET_VECTOR) {
-            Ok(pc) => (pc, Standing::Running),
-            Err(_) => (0, Standing::Halted),
-        };
-        board.at(Live {
+        let (pc, standing) = read_word(&mut self.bus, RESET_VECTOR).map_or(
+            (0, Standing::Halted),
+            |pc| (pc, Standing::Running),
+        );
+        self.at(Live {
             registers: reset_registers(pc),
             standing,
             lines: 0,

@@ -33,7 +33,8 @@ impl<B: Bus, C: Core> Board<B, C, Live> {
         Ok(self.run_steps(budget))
     }
 
-    // The clock tells the cycles. By a rule of the project the loop breaks with the refusal that ended it.
+    // The clock tells the cycles. Rules of the project: the answer is three numbers in a tuple, and the loop breaks with the refusal that
+    // ended it.
     fn run_steps(&mut self, budget: u32) -> (u32, u32, u8)
         requires { budget ≤ 65535 }
         ensures meaning { (result, situation B.cells self.new) ≡ run_taken C.table C.entry_figure budget (situation B.cells self.old) }

@@ -4,6 +4,9 @@ ghost use Rattle.bus.specs.Cell.{Cells, missing_cell, class_of, read_answer, sto
 
 use crate::cell::{BusRefusal, Class};
 
+// How many addresses there are: they end at 65,535.
+pub const ADDRESSES: usize = 65_536;
+
 // A memory. It means a function from addresses to cells, and each call is an equation over that function.
 pub trait Bus {
     ghost cells: { Self → Cells };

@@ -14,7 +14,8 @@ use state::registers::Registers;
 // Where the vector of SWI stands.
 const SWI_VECTOR: u16 = 0xFFFC;
 
-// Pushes X, A and the condition codes.
+// Pushes X, A and the condition codes. `bus, registers`: here and in `push_frame` no register changes, so that these are no calls of a
+// `Processor`.
 fn push_operands<B: Bus>(bus: &mut B, sp: u16, registers: &Registers) -> Result<(), Fault>
     ensures { (result, B.cells bus.new) ≡ perform (pushed_operands sp registers.now) (B.cells bus.old) }
 {

@@ -22,7 +22,8 @@ fn call<B: Bus>(processor: &mut Processor<'_, B>, target: u16) -> Result<(), Fau
     Ok(())
 }
 
-// JMP goes to the target, JSR and BSR call it. The kinds are closed: an arm each is plainer than a table.
+// JMP goes to the target, JSR and BSR call it. The kinds are closed: arms that name them all are plainer than a table.
+// `jump, target`: see `Processor`.
 pub fn transfer<B: Bus>(
     processor: &mut Processor<'_, B>,
     jump: Jump,

@@ -13,22 +13,19 @@ use std::test::Fail;
 fn lands(heap: Global, opcode: u8, ccr: u8, lines: u32) -> Result<u16, Fail> {
     let mut memory = OpenMemory::from([opcode, 16].to_vec(heap)?);
     let registers = Registers {
-        a: 0,
-        h: 0,
-        x: 0,
         sp: 255,
-        pc: 0,
         flags: Flags::from(ccr),
+        ..Registers::default()
     };
     let mut live = Live {
         registers,
         standing: Standing::Running,
         lines,
     };
-    match execute(&mut memory, &Model::Hcs08, &mut live) {
-        Ok(_) => Ok(live.registers.pc),
-        Err(_) => Err(Fail::new("no branch")),
+    if execute(&mut memory, &Model::Hcs08, &mut live).is_err() {
+        return Err(Fail::new("no branch"));
     }
+    Ok(live.registers.pc)
 }
 
 // An opcode, a condition code byte with which it branches, and one with which it does not. V is $80, H $10, I $08, N $04,

@@ -2,7 +2,8 @@
 use std::fmt::{Debug, Display};
 use std::test::Fail;
 
-// Answers a failure that names the case, unless two values are equal.
+// Answers a failure that names the case, unless two values are equal. The check of `trials` has no case to name: one for both would
+// have each of its calls make a name up.
 pub(crate) fn check_eq<T, N>(left: T, right: T, case: N) -> Result<(), Fail>
 where
     T: PartialEq + Debug + Drop,

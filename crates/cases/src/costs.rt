@@ -6,7 +6,7 @@ use isa::row::Page;
 use std::test::Fail;
 
 // Opcodes with their bytes, and their cycles on the CPU08 and the HCS08; 0 where the core has no such instruction.
-type Group = (&'static str, u8, u8, u8);
+pub(crate) type Group = (&'static str, u8, u8, u8);
 
 const FIRST: &[Group] = &[
     // BRSET and BRCLR; BSET and BCLR; branches
@@ -99,10 +99,9 @@ const SECOND: &[Group] = &[
     ("FF", 3, 0, 5),
 ];
 
-// The bytes and cycles of an opcode; zeros where it is no instruction.
-pub(crate) fn cost<C: Core>(core: &C, page: Page, opcode: u8) -> (u8, u8) {
-    core.row(page, opcode)
-        .map_or((0, 0), |row| (row.bytes, row.cycles))
+// The bytes and cycles of an opcode that is an instruction.
+fn cost<C: Core>(core: &C, page: Page, opcode: u8) -> Option<(u8, u8)> {
+    core.row(page, opcode).map(|row| (row.bytes, row.cycles))
 }
 
 // How many opcodes are instructions.
@@ -112,34 +111,55 @@ pub(crate) fn known<C: Core>(core: &C, page: Page) -> usize {
         .count()
 }
 
-// Checks the opcodes of groups, and answers how many of them a core has.
-fn counted(core: Model, page: Page, groups: &[Group]) -> Result<u32, Fail> {
-    let mut count: u32 = 0;
-    for group in groups {
-        let (opcodes, bytes, on_cpu08, on_hcs08) = *group;
-        let cycles = match core {
-            Model::Cpu08 => on_cpu08,
-            Model::Hcs08 => on_hcs08,
-        };
-        let expected = if cycles == 0 { (0, 0) } else { (bytes, cycles) };
-        for opcode in opcodes.split_whitespace() {
-            let opcode = u8::from_str_radix(opcode, 16)?;
-            check_eq(cost(&core, page, opcode), expected, opcode)?;
-            if cycles != 0 {
-                count = count.wrapping_add(1);
-            }
-        }
+// Checks the opcodes of a group, and answers how many of them a core has.
+fn counted_in<C: Core>(core: &C, model: Model, page: Page, group: Group) -> Result<usize, Fail> {
+    let (opcodes, bytes, on_cpu08, on_hcs08) = group;
+    let cycles = match model {
+        Model::Cpu08 => on_cpu08,
+        Model::Hcs08 => on_hcs08,
+    };
+    let expected = (cycles != 0).then_some((bytes, cycles));
+    for opcode in opcodes.split_whitespace() {
+        let opcode = u8::from_str_radix(opcode, 16)?;
+        check_eq(cost(core, page, opcode), expected, opcode)?;
     }
-    Ok(count)
+    if cycles == 0 {
+        return Ok(0);
+    }
+    Ok(opcodes.split_whitespace().count())
+}
+
+// Checks the opcodes of groups by the cycles of a model, and answers how many of them a core has.
+pub(crate) fn counted<C: Core>(
+    core: &C,
+    model: Model,
+    page: Page,
+    groups: &[Group],
+) -> Result<usize, Fail> {
+    groups.iter().try_fold(0usize, |count, group| {
+        Ok(count.wrapping_add(counted_in(core, model, page, *group)?))
+    })
 }
 
 // The groups have each opcode that is an instruction, and no other is one.
 #[test]
 fn costs(rt: HostRuntime) -> Result<(), Fail> {
-    assert_eq!(rt; counted(Model::Cpu08, Page::First, FIRST)?, 249);
-    assert_eq!(rt; counted(Model::Cpu08, Page::Second, SECOND)?, 41);
-    assert_eq!(rt; counted(Model::Hcs08, Page::First, FIRST)?, 253);
-    assert_eq!(rt; counted(Model::Hcs08, Page::Second, SECOND)?, 47);
+    assert_eq!(rt;
+        counted(&Model::Cpu08, Model::Cpu08, Page::First, FIRST)?,
+        249
+    );
+    assert_eq!(rt;
+        counted(&Model::Cpu08, Model::Cpu08, Page::Second, SECOND)?,
+        41
+    );
+    assert_eq!(rt;
+        counted(&Model::Hcs08, Model::Hcs08, Page::First, FIRST)?,
+        253
+    );
+    assert_eq!(rt;
+        counted(&Model::Hcs08, Model::Hcs08, Page::Second, SECOND)?,
+        47
+    );
     assert_eq!(rt; known(&Model::Cpu08, Page::First), 249);
     assert_eq!(rt; known(&Model::Cpu08, Page::Second), 41);
     assert_eq!(rt; known(&Model::Hcs08, Page::First), 253);

@@ -6,6 +6,7 @@ use machine::request::enter;
 use state::live::Live;
 use state::registers::Registers;
 use state::standing::Standing;
+use std::alloc::Global;
 use std::test::Fail;
 
 // Of the lines 5 and 9 the vector of 5 counts, at 65534 - 10. The frame goes from 2 down past 0: PC low, PC high, X, A
@@ -34,14 +35,15 @@ fn frame(rt: HostRuntime) -> Result<(), Fail> {
         return Err(Fail::new("no entry"));
     };
     assert_eq!(rt; (cycles, live.standing), (11, Standing::Running));
-    assert_eq!(rt;
-        (live.registers.pc, live.registers.sp, live.registers.hx()),
-        (0xABCD, 65_533, 0x9A56)
-    );
-    assert_eq!(rt;
-        (live.registers.a, u8::from(live.registers.flags)),
-        (0x78, 0xED)
-    );
+    let expected = Registers {
+        a: 0x78,
+        h: 0x9A,
+        x: 0x56,
+        sp: 65_533,
+        pc: 0xABCD,
+        flags: Flags::from(0xED),
+    };
+    assert_eq!(rt; live.registers, expected);
     bytes = Vec::from(memory);
     assert!(rt; bytes.len() == 65_536);
     assert_eq!(rt; (bytes[2], bytes[1], bytes[0]), (0x34, 0x12, 0x56));
@@ -49,57 +51,52 @@ fn frame(rt: HostRuntime) -> Result<(), Fail> {
     Ok(())
 }
 
+// Tries to enter the request of line 2 in a memory of 256 cells, where its vector is missing, and answers the memory.
+fn without_a_vector(heap: Global, live: &mut Live) -> Result<Vec<u8>, Fail> {
+    let mut memory = OpenMemory::from(vec![in heap; 0u8; 256]?);
+    if enter(&mut memory, &Model::Cpu08, live).is_ok() {
+        return Err(Fail::new("an entry"));
+    }
+    Ok(Vec::from(memory))
+}
+
 // A vector that is missing: the frame is on the stack, and the registers and the standing are as they were.
 #[test]
 fn no_vector(rt: HostRuntime) -> Result<(), Fail> {
-    let mut memory = OpenMemory::from(vec![in rt.alloc(); 0u8; 256]?);
     let registers = Registers {
         a: 3,
-        h: 0,
         x: 4,
         sp: 255,
         pc: 0x0102,
         flags: Flags::from(0x60),
+        ..Registers::default()
     };
     let mut live = Live {
         registers,
         standing: Standing::Stopped,
         lines: 4,
     };
-    assert!(rt; enter(&mut memory, &Model::Cpu08, &mut live).is_err());
+    let bytes = without_a_vector(rt.alloc(), &mut live)?;
     assert_eq!(rt; live.standing, Standing::Stopped);
-    assert_eq!(rt;
-        (live.registers.pc, live.registers.sp, live.registers.hx()),
-        (0x0102, 255, 4)
-    );
-    assert_eq!(rt;
-        (live.registers.a, u8::from(live.registers.flags)),
-        (3, 0x60)
-    );
-    let bytes = Vec::from(memory);
+    assert_eq!(rt; live.registers, registers);
     assert!(rt; bytes.len() == 256);
     assert_eq!(rt; (bytes[255], bytes[254], bytes[253]), (2, 1, 4));
     assert_eq!(rt; (bytes[252], bytes[251]), (3, 0x60));
     Ok(())
 }
 
-// The same with registers that hold nothing.
+// With registers of which all but SP and the condition codes are 0 it is refused too.
 #[test]
 fn no_vector_for_blank_registers(rt: HostRuntime) -> Result<(), Fail> {
-    let mut memory = OpenMemory::from(vec![in rt.alloc(); 0u8; 256]?);
-    let registers = Registers {
-        a: 0,
-        h: 0,
-        x: 0,
-        sp: 255,
-        pc: 0,
-        flags: Flags::from(0x60),
-    };
     let mut live = Live {
-        registers,
+        registers: Registers {
+            sp: 255,
+            flags: Flags::from(0x60),
+            ..Registers::default()
+        },
         standing: Standing::Waiting,
         lines: 4,
     };
-    assert!(rt; enter(&mut memory, &Model::Cpu08, &mut live).is_err());
+    without_a_vector(rt.alloc(), &mut live)?;
     Ok(())
 }

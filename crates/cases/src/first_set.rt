@@ -1,73 +1,56 @@
 // Opcodes of the first set: what they cost.
-use crate::costs::{cost, known};
+use crate::costs::{Group, counted, known};
 use isa::first_set::FirstSet;
 use isa::model::Model;
 use isa::row::Page;
+use std::test::Fail;
 
-// Opcodes with their bytes, and their cycles on the CPU08 and the HCS08.
-const COSTS: [(&[u8], u8, u8, u8); 11] = [
+// Opcodes with their bytes, and their cycles on the CPU08 and the HCS08; 0 where the core has no such instruction.
+const COSTS: &[Group] = &[
     // branches
     (
-        b"\x20\x21\x22\x23\x24\x25\x26\x27\x28\x29\x2A\x2B\x2C\x2D\x2E\x2F\x90\x91\x92\x93",
+        "20 21 22 23 24 25 26 27 28 29 2A 2B 2C 2D 2E 2F 90 91 92 93",
         2,
         3,
         3,
     ),
     // A, X, SP or H:X with an operand byte
-    (
-        b"\xA0\xA1\xA2\xA3\xA4\xA5\xA6\xA7\xA8\xA9\xAA\xAB\xAE\xAF",
-        2,
-        2,
-        2,
-    ),
+    ("A0 A1 A2 A3 A4 A5 A6 A7 A8 A9 AA AB AE AF", 2, 2, 2),
     // LDHX and CPHX
-    (b"\x45\x65", 3, 3, 3),
+    ("45 65", 3, 3, 3),
     // changes of A and X
     (
-        b"\x40\x43\x44\x46\x47\x48\x49\x4A\x4C\x4D\x4F\x50\x53\x54\x56\x57\x58\x59\x5A\x5C\x5D\x5F",
+        "40 43 44 46 47 48 49 4A 4C 4D 4F 50 53 54 56 57 58 59 5A 5C 5D 5F",
         1,
         1,
         1,
     ),
     // TPA, CLRH, TAX, CLC, SEC, RSP, NOP and TXA
-    (b"\x85\x8C\x97\x98\x99\x9C\x9D\x9F", 1, 1, 1),
+    ("85 8C 97 98 99 9C 9D 9F", 1, 1, 1),
     // TXS and TSX
-    (b"\x94\x95", 1, 2, 2),
+    ("94 95", 1, 2, 2),
     // DAA, TAP, CLI and SEI
-    (b"\x72\x84\x9A\x9B", 1, 2, 1),
+    ("72 84 9A 9B", 1, 2, 1),
     // STOP and WAIT
-    (b"\x8E\x8F", 1, 1, 2),
+    ("8E 8F", 1, 1, 2),
     // MUL, DIV and NSA
-    (b"\x42", 1, 5, 5),
-    (b"\x52", 1, 7, 6),
-    (b"\x62", 1, 3, 1),
+    ("42", 1, 5, 5),
+    ("52", 1, 7, 6),
+    ("62", 1, 3, 1),
+    // BGND
+    ("82", 1, 0, 5),
 ];
 
-// The table has 77 opcodes, and BGND is the HCS08's alone.
+// The table has 77 opcodes of both cores, and BGND is the HCS08's alone.
 #[test]
-fn costs(rt: HostRuntime) {
+fn costs(rt: HostRuntime) -> Result<(), Fail> {
     let cpu08 = FirstSet(Model::Cpu08);
     let hcs08 = FirstSet(Model::Hcs08);
-    for (opcodes, bytes, on_cpu08, on_hcs08) in COSTS {
-        for opcode in opcodes {
-            assert_eq!(rt;
-                cost(&cpu08, Page::First, *opcode),
-                (bytes, on_cpu08),
-                "{}",
-                *opcode
-            );
-            assert_eq!(rt;
-                cost(&hcs08, Page::First, *opcode),
-                (bytes, on_hcs08),
-                "{}",
-                *opcode
-            );
-        }
-    }
-    assert_eq!(rt; cost(&cpu08, Page::First, 0x82), (0, 0));
-    assert_eq!(rt; cost(&hcs08, Page::First, 0x82), (1, 5));
+    assert_eq!(rt; counted(&cpu08, Model::Cpu08, Page::First, COSTS)?, 77);
+    assert_eq!(rt; counted(&hcs08, Model::Hcs08, Page::First, COSTS)?, 78);
     assert_eq!(rt; known(&cpu08, Page::First), 77);
     assert_eq!(rt; known(&hcs08, Page::First), 78);
     assert_eq!(rt; known(&cpu08, Page::Second), 0);
     assert_eq!(rt; known(&hcs08, Page::Second), 0);
+    Ok(())
 }

@@ -38,13 +38,6 @@ unfolding value_or_zero
 value_by_test sofar [] = refl
 value_by_test sofar (c ∷ cs) = gated (is_ascii_digit c) (list_all is_ascii_digit cs) (digits_value (sofar * 10 + (c - 48)) cs) (value_by_test (sofar * 10 + (c - 48)) cs)
 
-no_number : (low high : Bool) (v : Option ℕ) → high ≡ false → None ≡ cond (low && high) v None
-no_number true high v e = sym (cond-false _ _ _ e)
-no_number false high v e = refl
-
-pub too_long : (ds : List ℕ) → 5 < length ds → None ≡ number_of ds
-too_long ds h = no_number (leb 1 (length ds)) (leb (length ds) 5) _ (lt-leb (length ds) 5 h)
-
 valueless : (test : Bool) (v : Option ℕ) → v ≡ None → None ≡ cond test v None
 valueless true v e = sym e
 valueless false v e = refl

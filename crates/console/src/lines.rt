@@ -42,11 +42,11 @@ pub fn next_line(text: &[u8]) -> Option<(&[u8], &[u8])>
     if text.is_empty() {
         return None;
     }
-    let (line, rest) = split_line(text);
-    Some((line, rest))
+    Some(split_line(text))
 }
 
-// The lines of a text, one after another. The library's `split` would give an empty line after a final line feed.
+// The lines of a text, one after another. The library's `split` would give an empty line after a final line feed, and `split_inclusive`
+// would leave each line its feed, to be cut off by a closure in each of the two functions that take lines.
 #[derive(Drop)]
 pub struct Lines<'a>(pub &'a [u8]);
 

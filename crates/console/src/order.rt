@@ -16,7 +16,7 @@ pub enum Order {
     Drop(u32),
 }
 
-// Whether each character is a decimal digit.
+// Whether each character is a decimal digit. A function of its own: where `number` asked `all` itself, its proof did not close.
 fn are_digits(text: &[u8]) -> bool
     ensures { result ≡ list_all is_ascii_digit text.now }
 {
@@ -24,7 +24,7 @@ fn are_digits(text: &[u8]) -> bool
 }
 
 // The number that one to five decimal digits write. `parse` alone would take a sign and more digits.
-#[tactic(auto, using(crate::proofs::OrderLaws::too_long, crate::proofs::OrderLaws::other_character, crate::proofs::OrderLaws::digits_are_text, crate::proofs::OrderLaws::parsed))]
+#[tactic(auto, using(crate::proofs::OrderLaws::other_character, crate::proofs::OrderLaws::digits_are_text, crate::proofs::OrderLaws::parsed))]
 fn number(digits: &[u8]) -> Option<u32>
     ensures { result ≡ number_of digits.now }
 {
@@ -45,7 +45,8 @@ fn letter_and_number(line: &[u8]) -> Option<(u8, u32)>
     Some((*letter, count))
 }
 
-// The order that a line is: a capital letter, one blank and a number. A letter an arm is plainer than a table.
+// The order that a line is: a capital letter, one blank and a number. A letter that is none of the three is refused: a table of letters
+// would be searched, and then still need that arm.
 impl TryFrom<&[u8]> for Order {
     type Error = NotUnderstood;
 

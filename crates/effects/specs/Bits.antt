@@ -24,16 +24,15 @@ place_of B6 = 6
 place_of B7 = 7
 
 -- BSET sets the bit, BCLR clears it
-abbrev pub bit_changed : BitChange → BitNumber → ℕ → ℕ
-bit_changed Bset bit b = with_bit 8 b (place_of bit)
-bit_changed Bclr bit b = without_bit 8 b (place_of bit)
+abbrev pub bit_changed : BitChange → ℕ → ℕ
+bit_changed (Bset bit) b = with_bit 8 b (place_of bit)
+bit_changed (Bclr bit) b = without_bit 8 b (place_of bit)
+
+-- C becomes the tested bit, whether the branch is taken or not
+abbrev pub after_test : Bool → Bool → ℕ → Registers → Registers
+after_test bit taken offset r = branched_by taken offset (with_flags (with_c bit r.flags) r)
 
 -- BRSET branches where the bit is set, BRCLR where it is clear
-abbrev pub bit_wanted : BitBranch → Bool → Bool
-bit_wanted Brset bit = bit
-bit_wanted Brclr bit = not bit
-
--- C becomes the tested bit, and the branch goes by it
-abbrev pub branched_on : BitBranch → BitNumber → ℕ → ℕ → Registers → Registers
-branched_on branch bit b offset r =
-    branched_by (bit_wanted branch (bit_of 8 b (place_of bit))) offset (with_flags (with_c (bit_of 8 b (place_of bit)) r.flags) r)
+abbrev pub branched_on : BitBranch → ℕ → ℕ → Registers → Registers
+branched_on (Brset bit) b offset r = after_test (bit_of 8 b (place_of bit)) (bit_of 8 b (place_of bit)) offset r
+branched_on (Brclr bit) b offset r = after_test (bit_of 8 b (place_of bit)) (not (bit_of 8 b (place_of bit))) offset r

@@ -10,7 +10,8 @@ use isa::operation::Condition;
 use state::lines::is_raised;
 use state::registers::Registers;
 
-// Whether a branch is taken. After a comparison it is taken where the numbers stand in the order that the branch is named for.
+// Whether a branch is taken. After a comparison it is taken where the numbers stand in the order that the branch is named for. Of
+// `condition, flags, lines` the instruction has the first, its registers the second and the board the third: they meet here.
 #[tactic(auto, using(crate::proofs::Orders::ordered))]
 pub fn is_taken(condition: Condition, flags: Flags, lines: u32) -> bool
     ensures value { result ≡ taken condition flags lines }
@@ -19,7 +20,8 @@ pub fn is_taken(condition: Condition, flags: Flags, lines: u32) -> bool
     holds(condition, flags, lines)
 }
 
-// Whether the flags, or line 2, meet a condition. The kinds are closed: an arm each is plainer than a table.
+// Whether the flags, or line 2, meet a condition. A function of its own, on which the law that `is_taken` promises is proved. The kinds
+// are closed: an arm each is plainer than a table.
 fn holds(condition: Condition, flags: Flags, lines: u32) -> bool
     ensures { result ≡ taken condition flags lines }
 {

@@ -13,20 +13,19 @@ pub fn combine(operation: RegisterMemory, byte: u8, registers: &mut Registers)
     ensures value { registers.new ≡ combined operation byte registers.old }
     ensures compared { ComparesByte operation byte registers.old registers.new.flags }
 {
-    let a = registers.a;
-    let flags = registers.flags;
+    let Registers { a, flags, .. } = *registers;
     match operation {
-        RegisterMemory::Sub => registers.put_a(subtract(a, byte, false, flags)),
-        RegisterMemory::Cmp => registers.flags = subtract(a, byte, false, flags).1,
-        RegisterMemory::Sbc => registers.put_a(subtract(a, byte, flags.c, flags)),
-        RegisterMemory::Cpx => registers.flags = subtract(registers.x, byte, false, flags).1,
-        RegisterMemory::And => registers.put_a(and(a, byte, flags)),
-        RegisterMemory::Bit => registers.flags = and(a, byte, flags).1,
-        RegisterMemory::Lda => registers.put_a(test(byte, flags)),
-        RegisterMemory::Eor => registers.put_a(exclusive_or(a, byte, flags)),
-        RegisterMemory::Adc => registers.put_a(add(a, byte, flags.c, flags)),
-        RegisterMemory::Ora => registers.put_a(or(a, byte, flags)),
-        RegisterMemory::Add => registers.put_a(add(a, byte, false, flags)),
-        RegisterMemory::Ldx => registers.put_x(test(byte, flags)),
+        RegisterMemory::Sub => (registers.a, registers.flags) = subtract(a, byte, false, flags),
+        RegisterMemory::Cmp => (_, registers.flags) = subtract(a, byte, false, flags),
+        RegisterMemory::Sbc => (registers.a, registers.flags) = subtract(a, byte, flags.c, flags),
+        RegisterMemory::Cpx => (_, registers.flags) = subtract(registers.x, byte, false, flags),
+        RegisterMemory::And => (registers.a, registers.flags) = and(a, byte, flags),
+        RegisterMemory::Bit => (_, registers.flags) = and(a, byte, flags),
+        RegisterMemory::Lda => (registers.a, registers.flags) = test(byte, flags),
+        RegisterMemory::Eor => (registers.a, registers.flags) = exclusive_or(a, byte, flags),
+        RegisterMemory::Adc => (registers.a, registers.flags) = add(a, byte, flags.c, flags),
+        RegisterMemory::Ora => (registers.a, registers.flags) = or(a, byte, flags),
+        RegisterMemory::Add => (registers.a, registers.flags) = add(a, byte, false, flags),
+        RegisterMemory::Ldx => (registers.x, registers.flags) = test(byte, flags),
     }
 }

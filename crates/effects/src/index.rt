@@ -4,7 +4,6 @@ ghost use Rattle.alu.specs.Sums.{Compared};
 ghost use Rattle.state.specs.Registers.{hx};
 ghost use Rattle.effects.specs.Index.{index_loaded, index_compared, index_tested};
 
-use alu::logic::test;
 use alu::sums::subtract;
 use state::registers::Registers;
 
@@ -13,7 +12,7 @@ pub fn load_index(word: u16, registers: &mut Registers)
     ensures { registers.new ≡ index_loaded word registers.old }
 {
     registers.put_hx(word);
-    registers.flags = test(word, registers.flags).1;
+    registers.test(word);
 }
 
 // The flags order H:X and a word.
@@ -21,12 +20,12 @@ pub fn compare_index(word: u16, registers: &mut Registers)
     ensures value { registers.new ≡ index_compared word registers.old }
     ensures compared { Compared 16 (hx registers.old) word registers.new.flags }
 {
-    registers.flags = subtract(registers.hx(), word, false, registers.flags).1;
+    (_, registers.flags) = subtract(registers.hx(), word, false, registers.flags);
 }
 
 // H:X is tested.
 pub fn test_index(registers: &mut Registers)
     ensures { registers.new ≡ index_tested registers.old }
 {
-    registers.flags = test(registers.hx(), registers.flags).1;
+    registers.test(registers.hx());
 }

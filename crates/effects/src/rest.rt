@@ -11,15 +11,11 @@ pub fn rest(standstill: Standstill, registers: &mut Registers) -> Standing
     ensures standing { result ≡ stands_at standstill }
     ensures registers { registers.new ≡ rested standstill registers.old }
 {
-    match standstill {
-        Standstill::Stop => {
-            registers.flags.i = false;
-            Standing::Stopped
-        }
-        Standstill::Wait => {
-            registers.flags.i = false;
-            Standing::Waiting
-        }
-        Standstill::Bgnd => Standing::Halted,
-    }
+    let standing = match standstill {
+        Standstill::Stop => Standing::Stopped,
+        Standstill::Wait => Standing::Waiting,
+        Standstill::Bgnd => return Standing::Halted,
+    };
+    registers.flags.i = false;
+    standing
 }

@@ -1,6 +1,6 @@
 -- The modes that the opcode maps give to the operations of the first set.
-use Rattle.std.proofs.Common.{◌≡◌, ℕ, ◌/◌, ◌%◌, Bool, true, false, not, ◌&&◌, List, [], ◌∷◌, zero, suc, inl, inr, Some, None, slice_index_or, refl, ap, sym, ◌∙◌}
-use Rattle.std.proofs.lemmas.Bool.{eqb-true, false≢true}
+use Rattle.std.proofs.Common.{◌≡◌, ℕ, ◌/◌, ◌%◌, Bool, true, not, List, [], ◌∷◌, zero, suc, inl, inr, Some, None, slice_index_or, refl, ap, sym, ◌∙◌}
+use Rattle.std.proofs.lemmas.Bool.{and_parts, eqb-true}
 use Rattle.std.specs.List.{list_all}
 use Rattle.isa.specs.declared.operation.Operation.{Operation}
 use Rattle.isa.specs.declared.operation.Operation.TheVariants.{Branch, BranchOnBit, ChangeBit, Combine, Store, Modify, CompareAndBranch, DecrementAndBranch, Move, Word, Displace, Transfer, GoBack, SoftwareInterrupt, Stack, Register, Rest}
@@ -49,8 +49,8 @@ mode_told m n e = sym (numbered n) ∙ ap mode_of (sym (eqb-true (mode_number m)
 -- whether a map may give an operation that mode
 abbrev pub fits : Operation → Mode → Bool
 fits (Branch c) m = same_mode m Relative
-fits (BranchOnBit o b) m = true
-fits (ChangeBit o b) m = true
+fits (BranchOnBit o) m = true
+fits (ChangeBit o) m = true
 fits (Combine o) m = true
 fits (Store o) m = true
 fits (Modify o) m = true
@@ -73,16 +73,12 @@ abbrev place_fits : Place → Bool
 place_fits None = true
 place_fits (Some p) = fits p.0 p.1
 
-parts : (x y : Bool) → (x && y) ≡ true → (x ≡ true) × (y ≡ true)
-parts true y e = (refl, e)
-parts false y e = absurd (false≢true e)
-
 -- what passes at each element and at the default passes wherever the list is read
 passes_at : {A : Type 0} (test : A → Bool) (d : A) → test d ≡ true → (xs : List A) → list_all test xs ≡ true → (k : ℕ) →
     test (slice_index_or xs k d) ≡ true
 passes_at test d e [] all k = e
-passes_at test d e (x ∷ xs) all zero = (parts (test x) (list_all test xs) all).0
-passes_at test d e (x ∷ xs) all (suc k) = passes_at test d e xs (parts (test x) (list_all test xs) all).1 k
+passes_at test d e (x ∷ xs) all zero = (and_parts (test x) (list_all test xs) all).0
+passes_at test d e (x ∷ xs) all (suc k) = passes_at test d e xs (and_parts (test x) (list_all test xs) all).1 k
 
 module _ (own : Own) (all : (page : Page) → list_all (list_all place_fits) (page_of own page) ≡ true) where
   map_fits : (page : Page) (opcode : ℕ) → place_fits (place (page_of own page) opcode) ≡ true

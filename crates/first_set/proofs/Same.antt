@@ -41,8 +41,8 @@ module _ (same : SameOperations) where
 
   alike : (o : Operation) (m : Mode) → in_first_set o m ≡ true → fits o m ≡ true → SameCarriedOut o m
   alike (Branch c) m e f = in_mode (Branch c) m Relative f (same.branch c)
-  alike (BranchOnBit o b) m e f = absurd (false≢true e)
-  alike (ChangeBit o b) m e f = absurd (false≢true e)
+  alike (BranchOnBit o) m e f = absurd (false≢true e)
+  alike (ChangeBit o) m e f = absurd (false≢true e)
   alike (Combine o) m e f = in_mode (Combine o) m Immediate e (same.combine o)
   alike (Store o) m e f = absurd (false≢true e)
   alike (Modify o) m e f = modified_alike o m (or_cases (same_mode m InherentA) (same_mode m InherentX) e)

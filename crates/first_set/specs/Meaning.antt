@@ -107,8 +107,8 @@ abbrev pub operated : Row → ℕ → Registers → ℕ → Access (Registers ×
 operated row operand r lines =
     elim row.operation [
       | Branch c ↦ operand_byte row.mode operand >>= (λ offset. done (running (branched c offset r lines)))
-      | BranchOnBit o b ↦ fail
-      | ChangeBit o b ↦ fail
+      | BranchOnBit o ↦ fail
+      | ChangeBit o ↦ fail
       | Combine o ↦ operand_byte row.mode operand >>= (λ byte. done (running (combined o byte r)))
       | Store o ↦ fail
       | Modify o ↦ answered (placed o row.mode r) >>= (λ s. done (running s))

@@ -6,21 +6,20 @@ use access::cells::read_cell;
 use access::fault::Fault;
 use bus::traits::Bus;
 use effects::bits::branch_on;
-use isa::operation::{BitBranch, BitNumber};
+use isa::operation::BitBranch;
 use operands::address::Operand;
 use operands::processor::Processor;
 
-// Branches on a bit of the operand, which C then holds.
+// Branches on a bit of the operand, which C then holds. `branch, operand`: see `Processor`.
 pub fn branch_on_bit<B: Bus>(
     processor: &mut Processor<'_, B>,
     branch: BitBranch,
-    bit: BitNumber,
     operand: Operand,
 ) -> Result<(), Fault>
-    ensures { Performs B.cells (bit_tested branch bit operand) processor.old result processor.new }
+    ensures { Performs B.cells (bit_tested branch operand) processor.old result processor.new }
 {
     let offset = read_cell(processor.bus, operand.behind())?;
     let byte = read_cell(processor.bus, operand.address)?;
-    branch_on(branch, bit, byte, offset, processor.registers);
+    branch_on(branch, byte, offset, processor.registers);
     Ok(())
 }

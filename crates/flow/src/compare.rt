@@ -27,7 +27,8 @@ fn compare_immediate<B: Bus>(
     Ok(())
 }
 
-// Branches where A equals the operand in memory.
+// Branches where A equals the operand in memory. It reads the offset and the byte as `branch_on_bit` does: a function for the two calls
+// would answer a pair, to be taken apart at once.
 fn compare_operand<B: Bus>(processor: &mut Processor<'_, B>, operand: Operand) -> Result<(), Fault>
     ensures { Performs B.cells (compared_operand operand) processor.old result processor.new }
 {
@@ -37,7 +38,9 @@ fn compare_operand<B: Bus>(processor: &mut Processor<'_, B>, operand: Operand) -
     Ok(())
 }
 
-// Branches where A, or X, equals the operand. The kinds are closed: an arm each is plainer than a table.
+// Branches where A, or X, equals the operand. The kinds are closed: an arm each is plainer than a table, and the arms of CBEQA and CBEQX
+// are what tells the two fields apart. The operation goes no further
+// than this match: a struct of it and its operand would be made by the dispatcher and taken apart here at once.
 pub fn branch_where_equal<B: Bus>(
     processor: &mut Processor<'_, B>,
     operation: CompareBranch,
@@ -45,9 +48,10 @@ pub fn branch_where_equal<B: Bus>(
 ) -> Result<(), Fault>
     ensures { Performs B.cells (branched_where_equal operation operand) processor.old result processor.new }
 {
-    match operation {
-        CompareBranch::Cbeq => compare_operand(processor, operand),
-        CompareBranch::Cbeqa => compare_immediate(processor, processor.registers.a, operand),
-        CompareBranch::Cbeqx => compare_immediate(processor, processor.registers.x, operand),
-    }
+    let register = match operation {
+        CompareBranch::Cbeq => return compare_operand(processor, operand),
+        CompareBranch::Cbeqa => processor.registers.a,
+        CompareBranch::Cbeqx => processor.registers.x,
+    };
+    compare_immediate(processor, register, operand)
 }

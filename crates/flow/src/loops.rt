@@ -1,7 +1,8 @@
 // DBNZ.
 ghost use Rattle.std.specs.Prelude.{◌≡◌};
+ghost use Rattle.access.specs.Access.{perform};
 ghost use Rattle.operands.specs.Leaves.{Performs};
-ghost use Rattle.flow.specs.Loops.{until_zero, cell_decremented, counted, decremented};
+ghost use Rattle.flow.specs.Loops.{less, until_zero, cell_counted_down, decremented};
 
 use access::cells::{read_cell, store_cell};
 use access::fault::Fault;
@@ -20,45 +21,26 @@ fn branch_until_zero(left: u8, offset: u8, registers: &mut Registers)
     }
 }
 
-// Takes 1 from the byte at an address, and branches where something is left.
-fn decrement_cell<B: Bus>(
-    processor: &mut Processor<'_, B>,
-    address: u16,
-    offset: u8,
-) -> Result<(), Fault>
-    ensures { Performs B.cells (cell_decremented address offset) processor.old result processor.new }
+// Takes 1 from a byte, and answers what is left.
+fn count_down(byte: &mut u8) -> u8
+    ensures left { result ≡ less byte.old }
+    ensures byte { byte.new ≡ less byte.old }
 {
-    let left = read_cell(processor.bus, address)?.wrapping_sub(1);
-    store_cell(processor.bus, address, left)?;
-    branch_until_zero(left, offset, processor.registers);
-    Ok(())
+    *byte = byte.wrapping_sub(1);
+    *byte
 }
 
-// Takes 1 from A, X or the byte at an address, and branches where something is left. A place an arm: A and X are two fields, and
-// a function over either would borrow it out of the registers that the branch changes.
-fn decrement<B: Bus>(
-    processor: &mut Processor<'_, B>,
-    home: Home,
-    address: u16,
-    offset: u8,
-) -> Result<(), Fault>
-    ensures { Performs B.cells (counted home address offset) processor.old result processor.new }
+// Takes 1 from the byte at an address, and answers what is left.
+fn decrement_cell<B: Bus>(bus: &mut B, address: u16) -> Result<u8, Fault>
+    ensures { (result, B.cells bus.new) ≡ perform (cell_counted_down address) (B.cells bus.old) }
 {
-    match home {
-        Home::Accumulator => {
-            processor.registers.a = processor.registers.a.wrapping_sub(1);
-            branch_until_zero(processor.registers.a, offset, processor.registers);
-        }
-        Home::Index => {
-            processor.registers.x = processor.registers.x.wrapping_sub(1);
-            branch_until_zero(processor.registers.x, offset, processor.registers);
-        }
-        Home::Memory => decrement_cell(processor, address, offset)?,
-    }
-    Ok(())
+    let left = read_cell(bus, address)?.wrapping_sub(1);
+    store_cell(bus, address, left)?;
+    Ok(left)
 }
 
-// Takes 1 from the operand, and branches where something is left.
+// Takes 1 from the operand, and branches where something is left. The kinds are closed: an arm each is plainer than a table, and the
+// arms of A and X are what tells the two fields apart.
 pub fn decrement_and_branch<B: Bus>(
     processor: &mut Processor<'_, B>,
     operand: Operand,
@@ -66,5 +48,11 @@ pub fn decrement_and_branch<B: Bus>(
     ensures { Performs B.cells (decremented operand) processor.old result processor.new }
 {
     let offset = read_cell(processor.bus, operand.behind())?;
-    decrement(processor, operand.home(), operand.address, offset)
+    let left = match operand.home() {
+        Home::Accumulator => count_down(&mut processor.registers.a),
+        Home::Index => count_down(&mut processor.registers.x),
+        Home::Memory => decrement_cell(processor.bus, operand.address)?,
+    };
+    branch_until_zero(left, offset, processor.registers);
+    Ok(())
 }

@@ -1,7 +1,8 @@
 -- The first set of a core: its rows are lawful, and they are those of its map.
 use Rattle.std.specs.Prelude.{◌≡◌, ℕ, ◌/◌, ◌%◌, Bool, true, false, cond, List, [], Some, None, Option, slice_index_or, refl}
-use Rattle.std.proofs.Common.{ap, ◌∙◌, sym, arith, map}
+use Rattle.std.proofs.Common.{ap, ◌∙◌, sym, map}
 use Rattle.std.proofs.Math.ListN.{get_or-map}
+use Rattle.std.proofs.lemmas.Option.{cond_some}
 use Rattle.isa.specs.declared.operation.Operation.{Operation}
 use Rattle.isa.specs.declared.row.Mode.{Mode}
 use Rattle.isa.specs.declared.row.Page.{Page}
@@ -14,14 +15,10 @@ use Rattle.isa.specs.Timing.{figures}
 use Rattle.isa.specs.FirstSet.{in_first_set, if_first, first_set_of, SameRows}
 use Rattle.isa.specs.FirstMaps.{first_lines, first_map, first_cpu08_table, first_hcs08_table}
 
-chosen : (b : Bool) (r row : Row) → cond b (Some r) None ≡ Some row → Some r ≡ Some row
-chosen true r row e = e
-chosen false r row e = let z : ◌≡◌ {A = ℕ} 0 1 = cc in absurd (omega arith)
-
 -- a row of the first set is a row of the table
 of_table : (o : Option Row) (row : Row) → if_first o ≡ Some row → o ≡ Some row
 of_table None row e = e
-of_table (Some r) row e = chosen (in_first_set r.operation r.mode) r row e
+of_table (Some r) row e = ap Some ((cond_some (in_first_set r.operation r.mode) r row e).1)
 
 -- a law of all rows of a table binds its first set
 pub first_set_lawful : (table : Table) →

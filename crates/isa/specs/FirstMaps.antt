@@ -1,5 +1,5 @@
 -- The opcode maps of the first set, sixteen opcodes to a line.
-use Rattle.std.specs.Prelude.{List, [], ◌∷◌}
+use Rattle.std.specs.Prelude.{List, [], ◌∷◌, replicate}
 use Rattle.isa.specs.declared.operation.Condition.TheVariants.{Bge, Blt, Bgt, Ble}
 use Rattle.isa.specs.declared.operation.ReadModifyWrite.TheVariants.{Neg, Com, Lsr, Ror, Asr, Lsl, Rol, Dec, Inc, Tst, Clr}
 use Rattle.isa.specs.declared.operation.WordOperation.TheVariants.{Ldhx, Cphx}
@@ -36,8 +36,7 @@ first_line_9 = rel Bge ∷ rel Blt ∷ rel Bgt ∷ rel Ble ∷ inh Txs ∷ inh T
 abbrev pub first_lines : Own → Page → List (List Place)
 first_lines own First =
     blanks ∷ blanks ∷ line_2 ∷ blanks ∷ changing InherentA (inh Mul) (hx Ldhx Immediate) ∷ changing InherentX (inh Div) ·· ∷ adjusting (inh Nsa) (hx Cphx Immediate) ∷ adjusting (inh Daa) ·· ∷ first_line_8 own ∷ first_line_9 ∷ combining Immediate (ptr Ais) ·· ·· (ptr Aix) ∷ blanks ∷ blanks ∷ blanks ∷ blanks ∷ blanks ∷ []
-first_lines own Second =
-    blanks ∷ blanks ∷ blanks ∷ blanks ∷ blanks ∷ blanks ∷ blanks ∷ blanks ∷ blanks ∷ blanks ∷ blanks ∷ blanks ∷ blanks ∷ blanks ∷ blanks ∷ blanks ∷ []
+first_lines own Second = replicate 16 blanks
 
 -- a map of the first set, by its lines
 abbrev pub first_map : Own → Map

@@ -16,8 +16,8 @@ same_mode m n = mode_number m == mode_number n
 -- the instructions without an operand in memory, without a call and without the stack
 abbrev pub in_first_set : Operation → Mode → Bool
 in_first_set (Branch c) m = true
-in_first_set (BranchOnBit o b) m = false
-in_first_set (ChangeBit o b) m = false
+in_first_set (BranchOnBit o) m = false
+in_first_set (ChangeBit o) m = false
 in_first_set (Combine o) m = same_mode m Immediate
 in_first_set (Store o) m = false
 in_first_set (Modify o) m = same_mode m InherentA || same_mode m InherentX

@@ -57,19 +57,19 @@ rel c = Some (Branch c, Relative)
 
 -- a branch on a bit of a direct byte that is set
 abbrev pub brset : BitNumber → Place
-brset b = Some (BranchOnBit Brset b, Direct)
+brset b = Some (BranchOnBit (Brset b), Direct)
 
 -- a branch on a bit of a direct byte that is clear
 abbrev pub brclr : BitNumber → Place
-brclr b = Some (BranchOnBit Brclr b, Direct)
+brclr b = Some (BranchOnBit (Brclr b), Direct)
 
 -- a bit of a direct byte set
 abbrev pub bset : BitNumber → Place
-bset b = Some (ChangeBit Bset b, Direct)
+bset b = Some (ChangeBit (Bset b), Direct)
 
 -- a bit of a direct byte cleared
 abbrev pub bclr : BitNumber → Place
-bclr b = Some (ChangeBit Bclr b, Direct)
+bclr b = Some (ChangeBit (Bclr b), Direct)
 
 -- a register combined with an operand byte
 abbrev pub reg : RegisterMemory → Mode → Place
@@ -256,8 +256,8 @@ mode_bytes immediate IndexedPlusDirect = 1
 -- the bytes behind the opcode: those of the mode, where H:X takes an immediate word, and the offset of a branch that has an operand too
 abbrev pub operand_bytes : Operation → Mode → ℕ
 operand_bytes (Branch c) m = mode_bytes 1 m
-operand_bytes (BranchOnBit o b) m = mode_bytes 1 m + 1
-operand_bytes (ChangeBit o b) m = mode_bytes 1 m
+operand_bytes (BranchOnBit o) m = mode_bytes 1 m + 1
+operand_bytes (ChangeBit o) m = mode_bytes 1 m
 operand_bytes (Combine o) m = mode_bytes 1 m
 operand_bytes (Store o) m = mode_bytes 1 m
 operand_bytes (Modify o) m = mode_bytes 1 m

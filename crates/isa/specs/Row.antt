@@ -1,5 +1,6 @@
 -- The pages as they are written down.
-use Rattle.std.specs.Prelude.{◌≡◌, ℕ, zero, suc, List, [], ◌∷◌, Some, None, Option}
+use Rattle.std.specs.Prelude.{◌≡◌, ℕ, List, map, Some, None, Option}
+use Rattle.std.specs.List.{range_with_len}
 use Rattle.isa.specs.declared.cycles.Cycles.{Cycles}
 use Rattle.isa.specs.declared.model.Model.{Model}
 use Rattle.isa.specs.declared.operation.Operation.{Operation}
@@ -27,17 +28,11 @@ row_on model (Some p) = row_costing p.0 p.1 p.2 (cycles_on model p.3)
 
 -- the rows that are written down at some places, on a core
 abbrev pub rows_on : Model → List Written → List (Option Row)
-rows_on model [] = []
-rows_on model (place ∷ places) = row_on model place ∷ rows_on model places
-
--- so many rows of a page from an opcode on
-abbrev pub listed_from : (ℕ → Option Row) → ℕ → ℕ → List (Option Row)
-listed_from page opcode zero = []
-listed_from page opcode (suc n) = page opcode ∷ listed_from page (suc opcode) n
+rows_on model = map (row_on model)
 
 -- the 256 rows of a page
 abbrev pub listed : (ℕ → Option Row) → List (Option Row)
-listed page = listed_from page 0 256
+listed page = map page (range_with_len 0 256)
 
 -- these are the rows of a core's page, at all 256 places
 abbrev pub RowsOf : Model → Page → List Written → Type 0

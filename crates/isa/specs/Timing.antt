@@ -170,8 +170,8 @@ entry_figures = 9 ⁄ 11
 -- every instruction's figures; SWI takes as long as the entry of a request
 abbrev pub figures : Operation → Mode → Figures
 figures (Branch c) m = 3 ⁄ 3
-figures (BranchOnBit o b) m = 5 ⁄ 5
-figures (ChangeBit o b) m = 4 ⁄ 5
+figures (BranchOnBit o) m = 5 ⁄ 5
+figures (ChangeBit o) m = 4 ⁄ 5
 figures (Combine o) m = combine_figures m
 figures (Store o) m = store_figures m
 figures (Modify o) m = modify_figures o m

@@ -16,12 +16,13 @@ pub enum Cycles {
 }
 
 impl Cycles {
-    // The cycles on a core, or none where the core lacks the instruction.
+    // The cycles on a core, or none where the core lacks the instruction. The kinds are closed: arms that name
+    // them all are plainer than a table.
     pub(crate) fn on(self, model: Model) -> Option<u8>
         ensures { result ≡ cycles_on model self }
     {
         match (self, model) {
-            (Cycles::Both(cycles), _) => Some(cycles),
+            (Cycles::Both(cycles), Model::Cpu08 | Model::Hcs08) => Some(cycles),
             (Cycles::Each(cpu08, _), Model::Cpu08) => Some(cpu08),
             (Cycles::Each(_, hcs08), Model::Hcs08) => Some(hcs08),
             (Cycles::Hcs08Only(_), Model::Cpu08) => None,

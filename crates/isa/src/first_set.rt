@@ -10,7 +10,9 @@ use crate::core08::Core;
 use crate::operation::Operation;
 use crate::row::{Mode, Page, Row};
 
-// Whether an instruction is of the first set. The groups are closed: an arm each is plainer than a table.
+// Whether an instruction is of the first set. The groups are closed: arms that name them all are plainer than a table. Of the modes the
+// first set has one or two: a match with an arm each would name the others. One arm for `true` and one for `false` would take a line for
+// each group, as the formatter sets them.
 fn is_in_first_set(operation: Operation, mode: Mode) -> bool
     ensures { result ≡ in_first_set operation mode }
 {
@@ -19,7 +21,7 @@ fn is_in_first_set(operation: Operation, mode: Mode) -> bool
         Operation::Register(_) | Operation::Rest(_) => true,
         Operation::Combine(_) | Operation::Word(_) => matches!(mode, Mode::Immediate),
         Operation::Modify(_) => matches!(mode, Mode::InherentA | Mode::InherentX),
-        Operation::BranchOnBit(..) | Operation::ChangeBit(..) | Operation::Store(_) => false,
+        Operation::BranchOnBit(_) | Operation::ChangeBit(_) | Operation::Store(_) => false,
         Operation::CompareAndBranch(_) | Operation::DecrementAndBranch | Operation::Move => false,
         Operation::Transfer(_) | Operation::GoBack(_) => false,
         Operation::SoftwareInterrupt | Operation::Stack(_) => false,
@@ -54,6 +56,7 @@ impl<C: Core> Core for FirstSet<C> {
 }
 
 // There is nothing to run: the first set of each core's table is the table of its map, at all 512 places.
+#[tactic(auto, using(crate::specs::FirstLaws::cpu08_first, crate::specs::FirstLaws::hcs08_first))]
 pub fn first_set_is_mapped()
     ensures cpu08 { SameRows (first_set_of cpu08_table) first_cpu08_table }
     ensures hcs08 { SameRows (first_set_of hcs08_table) first_hcs08_table }

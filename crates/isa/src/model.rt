@@ -1,5 +1,4 @@
 // The two cores.
-ghost use Rattle.std.specs.Prelude.{◌≡◌};
 ghost use Rattle.isa.specs.Model.{model_table, model_entry};
 ghost use Rattle.isa.specs.Lawful.{model_lawful};
 ghost use Rattle.std.proofs.Common.{rules};
@@ -12,13 +11,6 @@ use crate::row::{Page, Row, row_on};
 pub enum Model {
     Cpu08,
     Hcs08,
-}
-
-// The row of an opcode on a core, from the page where it is written down.
-fn row_at(model: Model, page: Page, opcode: u8) -> Option<Row>
-    ensures { result ≡ model_table model page opcode }
-{
-    row_on(model, places(page)[opcode as usize])
 }
 
 impl Core for Model {
@@ -34,10 +26,12 @@ impl Core for Model {
 
     ghost figure = { Prim.search rules };
 
+    #[tactic(auto, using(crate::proofs::Tabulated::row_of_core))]
     fn row(&self, page: Page, opcode: u8) -> Option<Row> {
-        row_at(*self, page, opcode)
+        row_on(*self, places(page)[usize::from(opcode)])
     }
 
+    // The cores are closed: an arm each is plainer than a table.
     fn entry_cycles(&self) -> u8 {
         match self {
             Model::Cpu08 => 9,

@@ -41,15 +41,15 @@ pub enum BitNumber {
 // A branch on a bit of a memory byte.
 #[derive(Clone, Copy)]
 pub enum BitBranch {
-    Brset,
-    Brclr,
+    Brset(BitNumber),
+    Brclr(BitNumber),
 }
 
 // A bit of a memory byte, set or cleared.
 #[derive(Clone, Copy)]
 pub enum BitChange {
-    Bset,
-    Bclr,
+    Bset(BitNumber),
+    Bclr(BitNumber),
 }
 
 // A register combined with an operand byte.
@@ -174,8 +174,8 @@ pub enum Standstill {
 #[derive(Clone, Copy)]
 pub enum Operation {
     Branch(Condition),
-    BranchOnBit(BitBranch, BitNumber),
-    ChangeBit(BitChange, BitNumber),
+    BranchOnBit(BitBranch),
+    ChangeBit(BitChange),
     Combine(RegisterMemory),
     Store(RegisterStore),
     Modify(ReadModifyWrite),

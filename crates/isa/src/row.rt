@@ -54,7 +54,8 @@ pub enum Page {
     Second,
 }
 
-// A place of a page as it is written down: operation, mode, bytes and cycles, or none.
+// A place of a page as it is written down: operation, mode, bytes and cycles, or none. A tuple, unlike `Row`, so that each place is a
+// line of the page.
 pub type Place = Option<(Operation, Mode, u8, Cycles)>;
 
 // An instruction on a core: what it does, how it finds its operand, its length in bytes, and what it costs.

@@ -27,8 +27,8 @@ use Rattle.operations.specs.Words.{worded}
 -- the accesses of an operation, and the registers that it leaves; the program counter is already at the next instruction
 abbrev pub acted : Operation → Operand → Registers → ℕ → Access Registers
 acted (Branch condition) operand r lines = done (branched_to (taken condition r.flags lines) operand.address r)
-acted (BranchOnBit branch bit) operand r lines = bit_tested branch bit operand r
-acted (ChangeBit change bit) operand r lines = memory_bit_changed change bit operand.address >>= (λ _. done r)
+acted (BranchOnBit branch) operand r lines = bit_tested branch operand r
+acted (ChangeBit change) operand r lines = memory_bit_changed change operand.address >>= (λ _. done r)
 acted (Combine o) operand r lines = operand_combined o operand.address r
 acted (Store o) operand r lines = register_stored o operand.address r
 acted (Modify o) operand r lines = operand_modified o operand r
@@ -47,8 +47,8 @@ acted (Rest standstill) operand r lines = done (rested standstill r)
 -- how the machine stands after an operation: as before, unless the operation brings it to rest
 abbrev pub stands_after : Operation → Standing → Standing
 stands_after (Branch condition) s = s
-stands_after (BranchOnBit branch bit) s = s
-stands_after (ChangeBit change bit) s = s
+stands_after (BranchOnBit branch) s = s
+stands_after (ChangeBit change) s = s
 stands_after (Combine o) s = s
 stands_after (Store o) s = s
 stands_after (Modify o) s = s

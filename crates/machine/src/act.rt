@@ -26,8 +26,11 @@ use rewrites::modify::modify_operand;
 use rewrites::moves::move_byte;
 use state::standing::Standing;
 
-// The program counter is already at the next instruction. The kinds are closed: an arm each is plainer than a table. The processor
-// has the registers: what is left of a live machine stands beside it.
+// The program counter is already at the next instruction. The kinds are closed: an arm each is plainer than a table.
+// `operation, operand`: the match takes the operation apart, and an arm takes the operand, its address or neither. A struct of the
+// two would be made by `operate` and taken apart here at once.
+// `standing, lines`: the processor lends the registers alone, so that no operation can reach how the machine stands or its lines. One
+// arm reads the lines and one writes the standing: a struct of what is left of `Live` would be taken apart again here.
 pub(crate) fn act<B: Bus>(
     processor: &mut Processor<'_, B>,
     operation: Operation,
@@ -43,10 +46,8 @@ pub(crate) fn act<B: Bus>(
         Operation::Branch(condition) => {
             branch_where(condition, address, lines, processor.registers)
         }
-        Operation::BranchOnBit(branch, bit) => branch_on_bit(processor, branch, bit, operand)?,
-        Operation::ChangeBit(change, bit) => {
-            change_memory_bit(processor.bus, change, bit, address)?
-        }
+        Operation::BranchOnBit(branch) => branch_on_bit(processor, branch, operand)?,
+        Operation::ChangeBit(change) => change_memory_bit(processor.bus, change, address)?,
         Operation::Combine(operation) => combine_operand(processor, operation, address)?,
         Operation::Store(operation) => store_register(processor, operation, address)?,
         Operation::Modify(operation) => modify_operand(processor, operation, operand)?,

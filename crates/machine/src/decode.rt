@@ -19,15 +19,6 @@ pub(crate) struct Decoded {
     pub operand: u16,
 }
 
-impl Decoded {
-    // What the instruction costs.
-    pub(crate) fn cycles(self) -> u8
-        ensures { result ≡ self.row.cycles }
-    {
-        self.row.cycles
-    }
-}
-
 // A row with its operand's place; where there is none, no instruction.
 fn found(row: Option<Row>, operand: u16) -> Result<Decoded, Fault>
     ensures { result ≡ row_found row operand }

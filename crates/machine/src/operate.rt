@@ -15,8 +15,9 @@ use state::live::Live;
 use state::registers::Registers;
 use state::standing::Standing;
 
-// Finds the operand, and does the operation. The program counter is already at the next instruction. The processor has the
-// registers: what is left of a live machine stands beside it.
+// Finds the operand, and does the operation. The program counter is already at the next instruction. `standing, lines` go on to
+// `act`, where a struct of them would be taken apart: the processor lends the registers alone.
+#[tactic(auto, using(access::proofs::Sequence::sequenced))]
 fn operate<B: Bus>(
     processor: &mut Processor<'_, B>,
     decoded: Decoded,
@@ -46,7 +47,9 @@ fn move_on(decoded: Decoded, registers: &mut Registers)
     registers.pc = registers.pc.wrapping_add(u16::from(decoded.row.bytes));
 }
 
-// Moves the program counter on and carries the instruction out, at the row's cycles. A fault puts the program counter back.
+// Moves the program counter on and carries the instruction out, at the row's cycles. A fault puts the program counter back: on a copy of
+// the registers, which a fault would leave behind, a session took 1.4 times as long. `bus, live` as in `execute`.
+#[tactic(auto, using(crate::proofs::Executed::carried))]
 pub(crate) fn carry_out<B: Bus>(bus: &mut B, decoded: Decoded, live: &mut Live) -> Result<u8, Fault>
     ensures { (result, live.new, B.cells bus.new) ≡ executes live.old (perform (carried_out live.old decoded) (B.cells bus.old)) }
 {
@@ -57,7 +60,7 @@ pub(crate) fn carry_out<B: Bus>(bus: &mut B, decoded: Decoded, live: &mut Live) 
         registers: &mut live.registers,
     };
     match operate(&mut processor, decoded, &mut live.standing, live.lines) {
-        Ok(()) => Ok(decoded.cycles()),
+        Ok(()) => Ok(decoded.row.cycles),
         Err(fault) => {
             live.registers.pc = pc;
             Err(fault)

@@ -22,7 +22,8 @@ fn start<C: Core>(core: &C, standing: &mut Standing) -> u8
     core.entry_cycles()
 }
 
-// Enters the request of the lowest raised line, which stays raised, and answers the cycles of entry.
+// Enters the request of the lowest raised line, which stays raised, and answers the cycles of entry. `bus, core, live`: as `execute`
+// says. The processor is written out here and in `carry_out`: a call of a function that made it would be as long.
 pub fn enter<B: Bus, C: Core>(bus: &mut B, core: &C, live: &mut Live) -> Result<u8, Fault>
     ensures { (result, live.new, B.cells bus.new) ≡ executes live.old (perform (entered (C.entry_figure core.now) live.old) (B.cells bus.old)) }
 {

@@ -29,7 +29,8 @@ pub enum Home {
 }
 
 impl Operand {
-    // Where the byte stands that follows the operand's address. The kinds are closed: an arm each is plainer than a table.
+    // Where the byte stands that follows the operand's address. Three modes have two address bytes, seven have one, and the other
+    // eight have none: three arms are plainer than a table of eighteen rows.
     pub fn behind(self) -> u16
         ensures { result ≡ behind self }
     {
@@ -46,7 +47,8 @@ impl Operand {
         }
     }
 
-    // Where the operand lies, by its mode. The kinds are closed: an arm each is plainer than a table.
+    // Where the operand lies. Two modes name a register, and for the other sixteen the answer is memory: a table would say so sixteen
+    // times.
     pub fn home(self) -> Home
         ensures { result ≡ home_of self.mode }
     {
@@ -58,7 +60,9 @@ impl Operand {
     }
 }
 
-// The address of the operand, by the operand bytes that begin at `at`. The program counter is at the next instruction. The kinds are closed: an arm each is plainer than a table.
+// The address of the operand, by the operand bytes that begin at `at`. The program counter is at the next instruction. The kinds are
+// closed: arms that name them all are plainer than a table. `bus, registers`: no register changes, so that this is no call of a
+// `Processor`.
 pub fn operand_address<B: Bus>(
     bus: &mut B,
     mode: Mode,

@@ -10,7 +10,7 @@ use effects::pointers::displace;
 use isa::operation::{Pointer, RegisterMemory};
 use operands::processor::Processor;
 
-// SUB, CMP, SBC, CPX, AND, BIT, LDA, EOR, ADC, ORA, ADD and LDX.
+// SUB, CMP, SBC, CPX, AND, BIT, LDA, EOR, ADC, ORA, ADD and LDX. `operation, address`: see `Processor`.
 pub fn combine_operand<B: Bus>(
     processor: &mut Processor<'_, B>,
     operation: RegisterMemory,
@@ -23,7 +23,8 @@ pub fn combine_operand<B: Bus>(
     Ok(())
 }
 
-// AIS and AIX. It reads its byte as the function above: a closure for the one line that differs would need three clauses.
+// AIS and AIX. It shares with the function above the read, which is one call, and the answer: a function of both would take the
+// line between them as a closure, and its contract would have to say what the closure does.
 pub fn displace_pointer<B: Bus>(
     processor: &mut Processor<'_, B>,
     pointer: Pointer,

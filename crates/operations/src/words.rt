@@ -9,7 +9,8 @@ use effects::index::{compare_index, load_index, test_index};
 use isa::operation::WordOperation;
 use operands::processor::Processor;
 
-// Each operation on H:X and a word in memory. The kinds are closed: an arm each is plainer than a table.
+// Each operation on H:X and a word in memory. The kinds are closed: an arm each is plainer than a table. LDHX and CPHX read the word
+// alike: one arm for both would match the operation again to know what to do with it. `operation, address`: see `Processor`.
 pub fn word_operation<B: Bus>(
     processor: &mut Processor<'_, B>,
     operation: WordOperation,
@@ -19,12 +20,10 @@ pub fn word_operation<B: Bus>(
 {
     match operation {
         WordOperation::Ldhx => {
-            let word = read_word(processor.bus, address)?;
-            load_index(word, processor.registers);
+            load_index(read_word(processor.bus, address)?, processor.registers)
         }
         WordOperation::Cphx => {
-            let word = read_word(processor.bus, address)?;
-            compare_index(word, processor.registers);
+            compare_index(read_word(processor.bus, address)?, processor.registers)
         }
         WordOperation::Sthx => {
             store_word(processor.bus, address, processor.registers.hx())?;

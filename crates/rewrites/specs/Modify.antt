@@ -1,6 +1,5 @@
 -- A byte read, changed and put back.
 use Rattle.std.specs.Prelude.{ℕ}
-use Rattle.alu.specs.declared.flags.Flags.{Flags}
 use Rattle.isa.specs.declared.operation.ReadModifyWrite.{ReadModifyWrite}
 use Rattle.isa.specs.declared.operation.ReadModifyWrite.TheVariants.{Neg, Com, Lsr, Ror, Asr, Lsl, Rol, Dec, Inc, Tst, Clr}
 use Rattle.state.specs.declared.registers.Registers.{Registers}
@@ -40,25 +39,19 @@ cell_stored Inc address b = store address b (done tt)
 cell_stored Tst address b = done tt
 cell_stored Clr address b = store address b (done tt)
 
--- the byte that is changed
-abbrev pub byte_read : ReadModifyWrite → Home → ℕ → Registers → Access ℕ
-byte_read operation Accumulator address r = done r.a
-byte_read operation Index address r = done r.x
-byte_read operation Memory address r = cell_read operation address
+-- the byte at an address is read, changed and put back, and then the flags change
+abbrev pub cell_modified : ReadModifyWrite → ℕ → Registers → Access Registers
+cell_modified operation address r =
+    cell_read operation address >>= (λ b.
+    cell_stored operation address (modified operation b r.flags).0 >>= (λ _.
+    done (with_flags (modified operation b r.flags).1 r)))
 
--- the byte put back where it came from
-abbrev pub byte_put : ReadModifyWrite → Home → ℕ → ℕ → Registers → Access Registers
-byte_put operation Accumulator address b r = done (with_a (b, r.flags) r)
-byte_put operation Index address b r = done (with_x (b, r.flags) r)
-byte_put operation Memory address b r = cell_stored operation address b >>= (λ _. done r)
+-- A, X or the byte at an address is changed
+abbrev pub changed_at : ReadModifyWrite → Home → ℕ → Registers → Access Registers
+changed_at operation Accumulator address r = done (with_a (modified operation r.a r.flags) r)
+changed_at operation Index address r = done (with_x (modified operation r.x r.flags) r)
+changed_at operation Memory address r = cell_modified operation address r
 
--- what an operation made of the byte is put back, and then the flags change
-abbrev pub byte_put_back : ReadModifyWrite → Operand → ℕ × Flags → Registers → Access Registers
-byte_put_back operation operand outcome r =
-    byte_put operation (home_of operand.mode) operand.address outcome.0 r >>= (λ s. done (with_flags outcome.1 s))
-
--- the byte is read, changed and put back
+-- the operand is changed where it lies
 abbrev pub operand_modified : ReadModifyWrite → Operand → Registers → Access Registers
-operand_modified operation operand r =
-    byte_read operation (home_of operand.mode) operand.address r >>= (λ b.
-    byte_put_back operation operand (modified operation b r.flags) r)
+operand_modified operation operand r = changed_at operation (home_of operand.mode) operand.address r

@@ -6,31 +6,31 @@ use Rattle.state.specs.declared.registers.Registers.{Registers}
 use Rattle.state.specs.Registers.{hx, with_hx, tested}
 use Rattle.access.specs.Access.{Access, done, fail, read, store}
 use Rattle.operands.specs.declared.address.Operand.{Operand}
+use Rattle.operands.specs.Leaves.{stored_and_tested}
 
--- the byte is stored, and tested
-abbrev pub byte_placed : ℕ → ℕ → Registers → Access Registers
-byte_placed target b r = store target b (done (tested b r))
+-- the byte at `from` goes to the address that stands at `at`, which is read first
+abbrev pub moved_to_direct : ℕ → ℕ → Registers → Access Registers
+moved_to_direct at from r = read at (λ target. read from (λ b. stored_and_tested target b r))
 
 -- the target's address is read before the byte
 abbrev pub moved_direct : Operand → Registers → Access Registers
-moved_direct operand r =
-    read (after operand.bytes 1) (λ target. read operand.address (λ b. byte_placed target b r))
+moved_direct operand r = moved_to_direct (after operand.bytes 1) operand.address r
 
 -- the byte stands before the target's address
 abbrev pub moved_immediate : Operand → Registers → Access Registers
 moved_immediate operand r =
-    read operand.address (λ b. read (after operand.bytes 1) (λ target. byte_placed target b r))
+    read operand.address (λ b. read (after operand.bytes 1) (λ target. stored_and_tested target b r))
 
 -- the byte goes where H:X points, and H:X goes on by 1
 abbrev pub moved_to_index : Operand → Registers → Access Registers
 moved_to_index operand r =
-    read operand.address (λ b. store (hx r) b (done (with_hx (after (hx r) 1) (tested b r))))
+    read operand.address (λ b. store (hx r) b (done (with_hx (after (hx r) 1) (tested 8 b r))))
 
 -- the byte comes from where H:X points, and H:X goes on by 1
 abbrev pub moved_from_index : Operand → Registers → Access Registers
 moved_from_index operand r =
     read operand.bytes (λ target.
-    read operand.address (λ b. store target b (done (with_hx (after operand.address 1) (tested b r)))))
+    read operand.address (λ b. store target b (done (with_hx (after operand.address 1) (tested 8 b r)))))
 
 -- a byte moved, in the four modes of MOV
 abbrev pub byte_moved : Operand → Registers → Access Registers

@@ -12,6 +12,7 @@ use crate::phase::Phase;
 use crate::rows::{blank_row, print_row};
 use board::board::Board;
 use bus::open::OpenMemory;
+use bus::traits::ADDRESSES;
 use console::first::core_name;
 use console::lines::Lines;
 use isa::core08::Core;
@@ -20,9 +21,6 @@ use std::alloc::{AllocError, Global};
 
 // Input past this many bytes is never looked at.
 pub const INPUT_LIMIT: usize = 32_768;
-
-// Every address of a board of `course` has a byte.
-const MEMORY_BYTES: usize = 65_536;
 
 // A first line that names no core is all that is answered.
 fn refuse_start(heap: Global) -> Result<String, AllocError>
@@ -37,7 +35,7 @@ fn refuse_start(heap: Global) -> Result<String, AllocError>
 fn zeroed_memory(heap: Global) -> Result<OpenMemory, AllocError>
     ensures { IfOk result (λ m. open_cells m.bytes.items ≡ zeroed) }
 {
-    Ok(OpenMemory::from(vec![in heap; 0u8; MEMORY_BYTES]?))
+    Ok(OpenMemory::from(vec![in heap; 0u8; ADDRESSES]?))
 }
 
 // A loading board over zeroed open memory, at clock 0.
@@ -45,10 +43,10 @@ fn first_phase<C: Core + Drop>(heap: Global, core: C) -> Result<Phase<OpenMemory
     ensures { IfOk result (λ p. shown (λ m. open_cells m.bytes.items) p ≡ start core) }
 {
     let memory = zeroed_memory(heap)?;
-    match Board::make(memory, core, 0) {
-        Ok(board) => Ok(Phase::Records(board.begin())),
-        Err(_) => unreachable(),
-    }
+    let Ok(board) = Board::make(memory, core, 0) else {
+        unreachable()
+    };
+    Ok(Phase::Records(board.begin()))
 }
 
 // Takes the lines after the first one.
@@ -66,7 +64,8 @@ fn session<C: Core + Drop>(heap: Global, core: C, lines: Lines<'_>) -> Result<St
     Ok(text)
 }
 
-// Takes the first line, and on the core that it names the others.
+// Takes the first line, and on the core that it names the others. The bound is asked of the text here and of the lines above: a type for
+// each would be made once and taken apart once.
 #[tactic(auto, using(crate::proofs::Within::lines_within))]
 fn take_lines(heap: Global, text: &[u8]) -> Result<String, AllocError>
     requires { length text.now ≤ 32768 }

@@ -47,7 +47,8 @@ fn take_record<B: Bus, C: Core>(
 }
 
 impl<B: Bus, C: Core> Phase<B, C> {
-    // Takes a line of the session, and gives the row that is printed of it.
+    // Takes a line of the session, and gives the row that is printed of it. An arm a phase, and none takes the rest: each owns a board of
+    // its own type, so that no table could hold the two ways to go on.
     pub(crate) fn take_line(self, line: Line<'_>) -> (Phase<B, C>, Option<RegisterRow>)
         ensures { (printed_row result.1, shown B.cells result.0) ≡ line_said C.table C.entry_figure line.entry.number line.entry.text.now (shown B.cells self) }
     {

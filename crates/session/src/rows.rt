@@ -9,11 +9,11 @@ use state::registers::Registers;
 use std::alloc::AllocError;
 
 // What an order took: its steps and their cycles.
-#[derive(Clone, Copy)]
+#[derive(Clone, Copy, Default)]
 pub struct Ran {
     pub steps: u32,
     pub cycles: u32,
-    // the number of what ended it, 0 for none, as the board's run answers it
+    // the number of what ended it, 0 for none: a board's run answers that number by a rule of the project
     pub ended: u8,
 }
 
@@ -28,7 +28,8 @@ pub(crate) fn blank_row(line: u32, declined: Declined) -> RegisterRow
     }
 }
 
-// The row of an order that was obeyed or declined; a declined one took no step.
+// The row of an order that was obeyed or declined; a declined one took no step. The registers are copied one by one: `console`, whose row
+// it is, does not stand on `state`.
 pub(crate) fn register_row(
     line: u32,
     obeyed: Result<Ran, Declined>,
@@ -36,15 +37,15 @@ pub(crate) fn register_row(
 ) -> RegisterRow
     ensures { result ≡ register_row line obeyed registers }
 {
-    let (steps, cycles, refusal) = match obeyed {
-        Ok(ran) => (ran.steps, ran.cycles, ran.ended),
-        Err(declined) => (0, 0, declined.into()),
-    };
+    let ran = obeyed.unwrap_or_else(|declined| Ran {
+        ended: declined.into(),
+        ..Ran::default()
+    });
     RegisterRow {
         line,
-        steps,
-        cycles,
-        refusal,
+        steps: ran.steps,
+        cycles: ran.cycles,
+        refusal: ran.ended,
         pc: registers.pc,
         a: registers.a,
         hx: registers.hx(),

@@ -1,5 +1,5 @@
+pub mod Asking
 pub mod Bytes
-pub mod Hexadecimal
 pub mod Loading
 pub mod Reading
 pub mod Refusals

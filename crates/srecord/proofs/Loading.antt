@@ -1,28 +1,9 @@
--- One more cell, in the two loops over data.
-use Rattle.std.proofs.Common.{◌≡◌, ℕ, zero, suc, ◌+◌, ◌-◌, ◌/◌, ◌≤◌, List, [], ◌∷◌, length, Ok, Err, Result, refl, sym, ap, ◌∙◌, add-zero, add-suc, arith}
-use Rattle.bus.specs.Cell.{Cells, stored, store_answer}
-use Rattle.srecord.specs.declared.refusal.LineRefusal.{LineRefusal}
+-- Storing the bytes of data, the first one first.
+use Rattle.std.proofs.Common.{◌≡◌, ℕ, zero, suc, ◌+◌, ◌/◌, List, [], ◌∷◌, length, refl, sym, ap, ◌∙◌, arith}
+use Rattle.bus.specs.Cell.{Cells, stored}
 use Rattle.srecord.specs.Digits.{byte_of, byte_at, bytes_of}
-use Rattle.srecord.specs.Load.{open_answer, open_from, stored_data}
+use Rattle.srecord.specs.Load.{stored_data}
 use Rattle.srecord.proofs.Bytes.{next_byte}
-
-module _ (cells : Cells) (address : ℕ) where
-  -- after open cells the next one decides
-  pub open_more : (place : ℕ) (answer : Result Unit LineRefusal) → address ≤ place → open_from cells address (place - address) ≡ Ok tt → answer ≡ open_answer place (store_answer (cells place)) → open_from cells address (place + 1 - address) ≡ answer
-  open_more place answer from opened is =
-      let more : place + 1 - address ≡ suc (place - address) = omega arith in
-      let here : address + (place - address) ≡ place = omega arith in
-      rw (more, opened, here, is)
-
-  refused_longer : (n more : ℕ) (refusal : LineRefusal) → open_from cells address n ≡ Err refusal → open_from cells address (n + more) ≡ Err refusal
-  refused_longer n zero refusal is = rw (add-zero, is)
-  refused_longer n (suc more) refusal is = rw (add-suc, refused_longer n more refusal is)
-
-  -- a refusal is that of any longer run of cells
-  pub refused_from : (n count : ℕ) (refusal : LineRefusal) → n ≤ count → open_from cells address n ≡ Err refusal → open_from cells address count ≡ Err refusal
-  refused_from n count refusal within is =
-      let whole : n + (count - n) ≡ count = omega arith in
-      rw whole at (refused_longer n (count - n) refusal is)
 
 -- the memory once bytes were stored from an address on, the first one first
 abbrev pub stored_bytes : Cells → ℕ → List ℕ → Cells

@@ -11,11 +11,11 @@ pub struct HexAddress<'a> {
     pub ghost four: { length digits.characters.now ≡ 4 },
 }
 
-impl<'a> HexAddress<'a> {
-    // The address that the digits spell.
-    pub fn value(self) -> u16
-        ensures { result ≡ address_of self.entry.digits.characters.now }
-    {
-        u16::from_be_bytes([self.digits.byte(0), self.digits.byte(1)])
+// The address that the digits spell.
+impl<'a> From<HexAddress<'a>> for u16 {
+    ghost from_gives = { λ address value. value ≡ address_of address.digits.characters.now };
+
+    fn from(address: HexAddress<'a>) -> u16 {
+        u16::from_be_bytes([address.digits.byte(0), address.digits.byte(1)])
     }
 }

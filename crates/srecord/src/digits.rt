@@ -8,12 +8,7 @@ use crate::refusal::LineRefusal;
 pub fn digit(character: u8) -> Option<u8>
     ensures { result ≡ digit_of character }
 {
-    match character {
-        b'0'..=b'9' => Some(character - b'0'),
-        b'A'..=b'F' => Some(character - b'A' + 10),
-        b'a'..=b'f' => Some(character - b'a' + 10),
-        _ => None,
-    }
+    char::from(character).to_digit(16).map(|value| value as u8)
 }
 
 // The byte that two digits spell. Each digit's value is taken apart by `let .. else` by a rule of the project.

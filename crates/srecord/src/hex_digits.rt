@@ -32,7 +32,8 @@ impl<'a> TryFrom<&'a [u8]> for HexDigits<'a> {
     }
 }
 
-// Whether each character is a digit.
+// Whether each character is a digit. A function of its own: its contract gives both arms of `try_from` their fact; where `all` was asked
+// there, the proof of the ghost field did not close.
 fn all_hexadecimal(characters: &[u8]) -> bool
     ensures { result ≡ all_digits characters.now }
 {
@@ -50,7 +51,6 @@ impl<'a> HexDigits<'a> {
     }
 
     // The digits before a place, and those from it on.
-    #[tactic(auto, using(crate::proofs::Hexadecimal::hexadecimal_parts))]
     pub(crate) fn split_at(self, place: usize) -> (HexDigits<'a>, HexDigits<'a>)
         requires { place ≤ length self.characters.now }
         ensures before { result.0.characters.now ≡ take place self.entry.characters.now }
@@ -66,7 +66,6 @@ impl<'a> HexDigits<'a> {
     }
 
     // Byte `n` that the digits spell, counted from 0.
-    #[tactic(auto, using(crate::proofs::Hexadecimal::pair_read))]
     pub(crate) fn byte(self, n: usize) -> u8
         requires { 2 * n + 1 < length self.characters.now }
         ensures { result ≡ byte_at self.entry.characters.now n }
@@ -117,8 +116,7 @@ impl<'a> Iterator for Bytes<'a> {
             return None;
         }
         let byte = self.rest.byte(0);
-        let (_, rest) = self.rest.split_at(2);
-        self.rest = rest;
+        (_, self.rest) = self.rest.split_at(2);
         Some(byte)
     }
 }

@@ -9,13 +9,10 @@ use crate::reader::read_record;
 use crate::record::Record;
 use crate::refusal::LineRefusal;
 use bus::cell::{BusRefusal, Class};
-use bus::traits::Bus;
-
-// Addresses end below this.
-const MEMORY_SIZE: usize = 65536;
+use bus::traits::{ADDRESSES, Bus};
 
 // Takes a line: stores the data of a data record, and sets `ended` at an end record. A refused line changes nothing. No value goes
-// with `ended`: it is all that is kept of the lines so far.
+// with `ended`: it is all that is kept of the lines so far. `bus, ended` are two fields of a loading board, which lends them apart.
 pub fn take_line<B: Bus>(bus: &mut B, ended: &mut bool, line: &[u8]) -> Result<(), LineRefusal>
     ensures answer { result ≡ (line_taken ended.old (B.cells bus.old) line.now).answer }
     ensures ending { ended.new ≡ (line_taken ended.old (B.cells bus.old) line.now).is_ended }
@@ -28,7 +25,8 @@ pub fn take_line<B: Bus>(bus: &mut B, ended: &mut bool, line: &[u8]) -> Result<(
     take_record(bus, ended, read_record(line)?)
 }
 
-// Takes what a line says.
+// Takes what a line says. An arm a kind of record, and none takes the rest: that of data has the parts which data borrows, and a table by
+// kind would have to take them out by a match of its own.
 fn take_record<B: Bus>(bus: &mut B, ended: &mut bool, parsed: Record<'_>) -> Result<(), LineRefusal>
     requires { ended.old ≡ false }
     ensures answer { result ≡ (record_taken (B.cells bus.old) (parsed_by parsed.entry)).answer }
@@ -37,7 +35,7 @@ fn take_record<B: Bus>(bus: &mut B, ended: &mut bool, parsed: Record<'_>) -> Res
 {
     match parsed {
         Record::Header { .. } => Ok(()),
-        Record::Data { address, digits } => take_data(bus, address.value(), digits),
+        Record::Data { address, digits } => take_data(bus, u16::from(address), digits),
         Record::End { .. } => {
             *ended = true;
             Ok(())
@@ -45,13 +43,13 @@ fn take_record<B: Bus>(bus: &mut B, ended: &mut bool, parsed: Record<'_>) -> Res
     }
 }
 
-// Stores data, if every byte has an open cell.
+// Stores data, if every byte has an open cell. `address, digits` are the parts of a data record, whose address is read by now.
 fn take_data<B: Bus>(bus: &mut B, address: u16, digits: HexDigits<'_>) -> Result<(), LineRefusal>
     ensures answer { result ≡ data_answer (B.cells bus.old) address digits.entry.characters.now }
     ensures memory { B.cells bus.new ≡ data_memory (B.cells bus.old) address digits.entry.characters.now }
 {
     let count = digits.len() / 2;
-    if usize::from(address) + count > MEMORY_SIZE {
+    if usize::from(address) + count > ADDRESSES {
         return Err(LineRefusal::PastTheEnd);
     }
     require_open(bus, address, count)?;
@@ -59,19 +57,19 @@ fn take_data<B: Bus>(bus: &mut B, address: u16, digits: HexDigits<'_>) -> Result
     Ok(())
 }
 
-// Refuses the lowest of the cells from an address on that is not open.
+// Refuses the lowest of the cells from an address on that is not open. The range is of the size of a length, here and below, since 65,536,
+// where it may end, is no address.
 fn require_open<B: Bus>(bus: &B, address: u16, count: usize) -> Result<(), LineRefusal>
     requires { address + count ≤ 65536 }
     ensures { result ≡ open_from (B.cells bus.now) address count }
 {
     let first = usize::from(address);
-    for place in first..first + count {
-        require_open_cell(bus, place as u16)?;
-    }
-    Ok(())
+    (first..first + count).try_for_each(|place| require_open_cell(bus, place as u16))
 }
 
-// Refuses a cell that is not open. An open cell has no refusal, so that a class converts to none by itself.
+// Refuses a cell that is not open. An open class has no refusal: a `TryFrom` from class to refusal would answer its error where all is
+// well, and a match on its answer would stand here in place of this one. A function of `Class` in `bus` would have this match in it, and
+// be called here alone.
 fn require_open_cell<B: Bus>(bus: &B, address: u16) -> Result<(), LineRefusal>
     ensures { result ≡ open_answer address (store_answer (B.cells bus.now address)) }
 {
@@ -89,7 +87,7 @@ fn store_data<B: Bus>(bus: &mut B, address: u16, digits: HexDigits<'_>)
     ensures { B.cells bus.new ≡ stored_data (B.cells bus.old) address digits.entry.characters.now (length digits.entry.characters.now / 2) }
 {
     let first = usize::from(address);
-    for (place, byte) in (first..MEMORY_SIZE).zip(digits.bytes()) {
+    for (place, byte) in (first..ADDRESSES).zip(digits.bytes()) {
         let _ = bus.store(place as u16, byte);
     }
 }

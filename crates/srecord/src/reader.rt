@@ -9,18 +9,19 @@ use crate::hex_digits::HexDigits;
 use crate::record::{Kind, Record};
 use crate::refusal::LineRefusal;
 
-// The shortest record: `S`, its kind, and the digits of the count, the address and the checksum.
-const SHORTEST: usize = 10;
+// The fewest digits after `S` and the kind: those of the count, the address and the checksum.
+const FEWEST_DIGITS: usize = 8;
 
 // Reads a line, which has no line feed.
 pub fn read_record(line: &[u8]) -> Result<Record<'_>, LineRefusal>
     ensures { answer_parsed result ≡ record_of line.now }
 {
-    if line.len() < SHORTEST || line[0] != b'S' {
-        return Err(LineRefusal::NoRecord);
+    match line {
+        [b'S', kind, digits @ ..] if digits.len() >= FEWEST_DIGITS => {
+            read_digits(Kind::try_from(*kind)?, digits)
+        }
+        _ => Err(LineRefusal::NoRecord),
     }
-    let kind = Kind::try_from(line[1])?;
-    read_digits(kind, &line[2..])
 }
 
 // Reads what follows `S` and the kind.

@@ -21,7 +21,8 @@ pub enum Record<'a> {
     },
 }
 
-// The kinds of record. They stand beside `Record`, since a line of an unknown kind is refused before its digits are read, when there is no record yet.
+// The kinds of record. They stand beside `Record`, since a line of an unknown kind is refused before its digits are read, when there is no
+// record yet.
 #[derive(Clone, Copy)]
 pub(crate) enum Kind {
     Header,
@@ -29,7 +30,8 @@ pub(crate) enum Kind {
     End,
 }
 
-// The kind that a record line's second character names.
+// The kind that a record line's second character names. Any other character is refused: a table of characters would be searched, and then
+// still need that arm.
 impl TryFrom<u8> for Kind {
     type Error = LineRefusal;
 
@@ -46,7 +48,8 @@ impl TryFrom<u8> for Kind {
 }
 
 impl Kind {
-    // Whether a record of this kind may count so many bytes: an end record has an address and no data.
+    // Whether a record of this kind may count so many bytes: an end record has an address and no data. No arm takes the rest, so that
+    // the compiler asks it of a new kind; a comparison with `End` alone would allow that one unseen.
     pub(crate) fn allows(self, count: u8) -> bool
         ensures { result ≡ count_allowed self count }
     {
@@ -56,7 +59,8 @@ impl Kind {
         }
     }
 
-    // The record of this kind.
+    // The record of this kind. An arm a kind, since each keeps other parts of the two; a table of what makes them would hand out function
+    // pointers, which the project has none of.
     pub(crate) fn record<'a>(self, address: HexAddress<'a>, digits: HexDigits<'a>) -> Record<'a>
         ensures { parsed_by result ≡ parsed_of self address.entry.digits.characters.now digits.entry.characters.now }
     {

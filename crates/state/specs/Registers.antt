@@ -37,6 +37,6 @@ with_pc w r = record { a = r.a; h = r.h; x = r.x; sp = r.sp; pc = w; flags = r.f
 abbrev pub with_flags : Flags → Registers → Registers
 with_flags f r = record { a = r.a; h = r.h; x = r.x; sp = r.sp; pc = r.pc; flags = f }
 
--- the flags of a byte that is tested
-abbrev pub tested : ℕ → Registers → Registers
-tested b r = with_flags (test_of 8 b r.flags).1 r
+-- the flags of a number of w bits that is tested
+abbrev pub tested : ℕ → ℕ → Registers → Registers
+tested w number r = with_flags (test_of w number r.flags).1 r

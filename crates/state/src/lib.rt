@@ -1,4 +1,4 @@
-// What does the processor hold?
+// What does a live machine hold: registers, standing, lines?
 #![tactic(auto)]
 
 pub mod lines;

@@ -11,6 +11,8 @@ pub fn is_raised(lines: u32, line: u32) -> bool
     is_bit_set(lines, line)
 }
 
+// Raising and dropping are a call each: one function over a flag would choose between the same two calls.
+
 // The set with a line raised. A line from 32 on does not exist.
 pub fn with_raised(lines: u32, line: u32) -> u32
     ensures value { result ≡ with_line_raised lines line }

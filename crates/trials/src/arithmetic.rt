@@ -9,12 +9,17 @@ use alu::products::{divide, multiply};
 use alu::shifts::{arithmetic_shift_right, rotate_left, rotate_right, shift_left, shift_right};
 use alu::sums::{add, subtract};
 use alu::unary::{clear, complement, decrement, increment, negate, swap_nibbles};
+use std::fmt::Debug;
 use std::test::Fail;
 
-// Checks a byte and the flags.
-fn leaves(outcome: (u8, Flags), byte: u8, ccr: u8) -> Result<(), Fail> {
+// Checks what is left: a number or two, and the flags.
+fn leaves<T: PartialEq + Debug + Drop>(
+    outcome: (T, Flags),
+    expected: T,
+    ccr: u8,
+) -> Result<(), Fail> {
     let (result, flags) = outcome;
-    check_eq(result, byte)?;
+    check_eq(result, expected)?;
     check_eq(u8::from(flags), ccr)
 }
 
@@ -26,14 +31,12 @@ fn sums(rt: HostRuntime) -> Result<(), Fail> {
     leaves(add(0x7F, 0x01, false, none), 0x80, 0xF4)?;
     leaves(add(0x80, 0x80, false, all), 0x00, 0xEB)?;
     leaves(add(0x0F, 0x00, true, none), 0x10, 0x70)?;
-    leaves(subtract(0x00, 0x01, false, none), 0xFF, 0x65)?;
-    leaves(subtract(0x80, 0x01, false, all), 0x7F, 0xF8)?;
-    leaves(subtract(0x00, 0xFF, true, none), 0x00, 0x63)?;
+    leaves(subtract(0x00_u8, 0x01, false, none), 0xFF, 0x65)?;
+    leaves(subtract(0x80_u8, 0x01, false, all), 0x7F, 0xF8)?;
+    leaves(subtract(0x00_u8, 0xFF, true, none), 0x00, 0x63)?;
     leaves(decimal_adjust(0x32, Flags::from(0x71)), 0x98, 0x75)?;
     leaves(decimal_adjust(0x99, none), 0x99, 0x64)?;
-    let (difference, flags) = subtract(0x8000_u16, 0x0001, false, none);
-    assert_eq!(rt; difference, 0x7FFF);
-    assert_eq!(rt; u8::from(flags), 0xE0);
+    leaves(subtract(0x8000_u16, 0x0001, false, none), 0x7FFF, 0xE0)?;
     assert_eq!(rt; displaced(0x0000, 0xFF), 0xFFFF);
     assert_eq!(rt; displaced(0xFFFF, 0x7F), 0x007E);
     Ok(())
@@ -46,7 +49,7 @@ fn bytes(rt: HostRuntime) -> Result<(), Fail> {
     leaves(and(0xF0, 0x3C, all), 0x30, 0x79)?;
     leaves(or(0xF0, 0x3C, none), 0xFC, 0x64)?;
     leaves(exclusive_or(0x55, 0x55, none), 0x00, 0x62)?;
-    leaves(test(0x80, all), 0x80, 0x7D)?;
+    leaves(test(0x80_u8, all), 0x80, 0x7D)?;
     assert_eq!(rt; u8::from(test(0x8000_u16, none).1), 0x64);
     leaves(increment(0x7F, none), 0x80, 0xE4)?;
     leaves(increment(0xFF, all), 0x00, 0x7B)?;
@@ -64,22 +67,15 @@ fn bytes(rt: HostRuntime) -> Result<(), Fail> {
     Ok(())
 }
 
-// Checks two bytes and the flags.
-fn leaves_two(outcome: ((u8, u8), Flags), bytes: (u8, u8), ccr: u8) -> Result<(), Fail> {
-    let (results, flags) = outcome;
-    check_eq(results, bytes)?;
-    check_eq(u8::from(flags), ccr)
-}
-
 // 255 * 255 is $FE01. $01DC / 9 is 52, the rest 8, and 5 / 9 is 0. A quotient past 255, as of 0, leaves A and H.
 #[test]
 fn products() -> Result<(), Fail> {
     let none = Flags::from(0x00);
     let all = Flags::from(0xFF);
-    leaves_two(multiply(0xFF, 0xFF, all), (0xFE, 0x01), 0xEE)?;
-    leaves_two(divide(0x01, 0xDC, 9, none), (52, 8), 0x60)?;
-    leaves_two(divide(0x00, 0x05, 9, all), (0, 5), 0xFE)?;
-    leaves_two(divide(0x08, 0xFF, 9, all), (255, 8), 0xFC)?;
-    leaves_two(divide(0x09, 0x00, 9, none), (0x00, 0x09), 0x61)?;
-    leaves_two(divide(0x12, 0x34, 0, none), (0x34, 0x12), 0x61)
+    leaves(multiply(0xFF, 0xFF, all), (0xFE, 0x01), 0xEE)?;
+    leaves(divide(0x01, 0xDC, 9, none), (52, 8), 0x60)?;
+    leaves(divide(0x00, 0x05, 9, all), (0, 5), 0xFE)?;
+    leaves(divide(0x08, 0xFF, 9, all), (255, 8), 0xFC)?;
+    leaves(divide(0x09, 0x00, 9, none), (0x00, 0x09), 0x61)?;
+    leaves(divide(0x12, 0x34, 0, none), (0x34, 0x12), 0x61)
 }

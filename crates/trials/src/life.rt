@@ -19,10 +19,10 @@ fn loading(
     clock: u64,
 ) -> Result<Board<OpenMemory, FirstSet<Model>, Loading>, Fail> {
     let memory = OpenMemory::from(vec![in heap; 0u8; size]?);
-    match Board::make(memory, FirstSet(Model::Hcs08), clock) {
-        Ok(board) => Ok(board.begin()),
-        Err(_) => Err(Fail::new("not made")),
-    }
+    let Ok(board) = Board::make(memory, FirstSet(Model::Hcs08), clock) else {
+        return Err(Fail::new("not made"));
+    };
+    Ok(board.begin())
 }
 
 // A board just reset, after one record line and the end record.
@@ -35,18 +35,15 @@ fn live(
     let mut board = loading(heap, size, clock)?;
     check_eq(refusal_of(board.line(line)), 0)?;
     check_eq(refusal_of(board.line(b"S9030000FC")), 0)?;
-    match board.close() {
-        Ok(ready) => Ok(ready.reset()),
-        Err(_) => Err(Fail::new("not closed")),
-    }
+    let Ok(ready) = board.close() else {
+        return Err(Fail::new("not closed"));
+    };
+    Ok(ready.reset())
 }
 
 // The number of a refusal, or 0.
 fn refusal_of<T: Drop>(answer: Result<T, Refusal>) -> u8 {
-    match answer {
-        Ok(_) => 0,
-        Err(refusal) => u8::from(refusal),
-    }
+    answer.err().map_or(0, u8::from)
 }
 
 // A clock past the limit is refused, and memory and core come back. At the limit the board is made.

@@ -60,7 +60,7 @@ fn noise(heap: Global, lines: &[&str], ordered: bool) -> Result<Vec<u8>, AllocEr
         state = state.wrapping_mul(1_664_525).wrapping_add(1_013_904_223);
         let [byte, ..] = state.to_be_bytes();
         text.push(if ordered {
-            CHARACTERS[byte as usize % 16]
+            CHARACTERS[usize::from(byte) % 16]
         } else {
             byte
         })?;
@@ -72,12 +72,7 @@ fn noise(heap: Global, lines: &[&str], ordered: bool) -> Result<Vec<u8>, AllocEr
 // Checks that each line but the first few prints a row.
 fn all_answered(heap: Global, input: &[u8], silent: usize) -> Result<(), Fail> {
     let printed = course(heap, input)?;
-    let mut lines: usize = 0;
-    for byte in input {
-        if *byte == b'\n' {
-            lines = lines.wrapping_add(1);
-        }
-    }
+    let lines = input.iter().filter(|byte| **byte == b'\n').count();
     check_eq(printed.len() % 50, 0)?;
     check_eq(printed.len() / 50, lines.wrapping_sub(silent))
 }

@@ -2,7 +2,7 @@
 use crate::printed::answers;
 use std::test::Fail;
 
-// LDA #5, then STOP. The lines from the sixth on are no orders; from the 19th on they ask too much.
+// LDA #5, then STOP. Line 1 names the core; the lines 6 to 19 are no orders, and those from 20 to 25 ask too much.
 const ORDERS: &[&str] = &[
     "S1068000A6058E40",
     "S105FFFE80007D",

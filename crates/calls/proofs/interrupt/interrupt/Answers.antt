@@ -1,32 +1,14 @@
-use Rattle.std.proofs.Common.{rules, refl}
-use Rattle.access.proofs.Sequence.{after_ok, after_err}
+use Rattle.std.proofs.Common.{arith}
+use Rattle.access.proofs.Sequence.{sequenced}
 use Rattle.calls.specs.Interrupt.{pushed_frame, vectored}
-use Rattle.operands.specs.Leaves.{leaves}
 use Rattle.calls.proofs.interrupt.interrupt.Goals as goal
 
 pub returns-in_err-push_frame : goal.returns-in_err-push_frame
 returns-in_err-push_frame g c =
     let r = c.args.processor.now.registers.now in
-    let m = g.B.Bus.cells c.args.processor.now.bus.now in (
-      refl,
-      refl,
-      after_err
-          (λ _. vectored c.args.vector r)
-          (leaves r)
-          (pushed_frame r)
-          m
-          {z = (c.from_residual.result, r, g.B.Bus.cells c.push_frame.new.bus)}
-          c.push_frame.ensures
-          c.in_err-push_frame.was
-          (search rules),
-    )
+    grind (arith, sequenced (λ _. vectored c.args.vector r) (pushed_frame r) (g.B.Bus.cells c.args.processor.now.bus.now))
 
 pub returns : goal.returns
 returns g c =
     let r = c.args.processor.now.registers.now in
-    let m = g.B.Bus.cells c.args.processor.now.bus.now in
-    let done = c.go_to_vector.ensures in (
-      done.0,
-      done.1,
-      after_ok (λ _. vectored c.args.vector r) (leaves r) (pushed_frame r) m c.push_frame.ensures c.in_ok-push_frame.was done.2,
-    )
+    grind (arith, sequenced (λ _. vectored c.args.vector r) (pushed_frame r) (g.B.Bus.cells c.args.processor.now.bus.now))

@@ -1,17 +1,13 @@
+use Rattle.std.proofs.Common.{sym, ◌∙◌}
 use Rattle.alu.specs.Addresses.{before}
 use Rattle.access.specs.Words.{pushed_word}
-use Rattle.access.proofs.Sequence.{after_ok}
+use Rattle.access.proofs.Sequence.{sequenced}
 use Rattle.calls.specs.Interrupt.{pushed_operands}
 use Rattle.calls.proofs.interrupt.push_frame.Goals as goal
 
 pub returns : goal.returns
 returns g c =
     let r = c.args.registers.now in
-    after_ok
-    (λ _. pushed_operands (before r.sp 2) r)
-    (λ p. p)
-    (pushed_word r.sp r.pc)
-    (g.B.Bus.cells c.args.bus.now)
-    c.push_word.ensures
-    c.in_ok-push_word.was
-    c.push_operands.ensures
+    let e = sequenced (λ _. pushed_operands (before r.sp 2) r) (pushed_word r.sp r.pc) (g.B.Bus.cells c.args.bus.now) in
+    let pushed = rw (← c.push_word.ensures, c.in_ok-push_word.was) at e in
+    c.push_operands.ensures ∙ sym pushed

@@ -1,13 +1,11 @@
-use Rattle.std.proofs.Common.{◌+◌, ◌-◌, ◌≤◌, Err, sym, arith}
-use Rattle.std.proofs.lemmas.Result.{err_from_is_err_and}
-use Rattle.srecord.proofs.Loading.{open_more, refused_from}
+-- The cells are asked from the address on.
+use Rattle.std.proofs.Common.{◌≡◌, ◌-◌, refl, rules, arith}
+use Rattle.srecord.proofs.Asking.{asked}
 use Rattle.srecord.proofs.load.require_open.Goals as goal
 
-pub returns-in_err-require_open_cell : goal.returns-in_err-require_open_cell
-returns-in_err-require_open_cell g c =
-    let cells = g.B.Bus.cells c.args.bus.now in
-    let place = c.loop-place.place in
-    let exit = err_from_is_err_and c.from_residual.result c.from_residual.ensures.1 in
-    let more = open_more cells c.args.address place (Err c.in_err-require_open_cell.field-0.0) c.loop-place.invariant.0 c.loop-place.invariant.1 c.in_err-require_open_cell.ensures in
-    let within : place + 1 - c.args.address ≤ c.args.count = omega arith in
-    rw (exit.1, exit.2) (sym (refused_from cells c.args.address (place + 1 - c.args.address) c.args.count _ within more))
+pub returns : goal.returns
+returns g c =
+    let ran = c.try_for_each.ensures.ran in
+    let none : c.from-first.result - c.args.address ≡ 0 = omega arith in
+    asked _ (λ residual. residual.0) (g.B.Bus.cells c.args.bus.now) c.args.address c.args.count (λ x v q k h. search rules) c.try_for_each.result c.try_for_each.new.self
+    ran.0 _ ran.3.0 ran.1 ran.2 (omega arith) (omega arith) (omega arith) (rw none refl) ran.3.1 ran.3.2 ran.4 ran.5

@@ -29,7 +29,7 @@ module _ {C : Type 0} (table : C → Table) (figure : C → ℕ) where
   ticks s (Some refusal) = sym (add-zero s.clock)
   ticks s None = settled_ticks s (perform (action (table s.core) (figure s.core) s.stage) s.memory)
 
-  step_clock : (s : Situation C Live) → Ticked s (step_taken table figure s)
+  pub step_clock : (s : Situation C Live) → Ticked s (step_taken table figure s)
   step_clock s = ticks s (step_refusal s.clock s.stage)
 
   -- the clock after a step, by its answer

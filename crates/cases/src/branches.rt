@@ -1,6 +1,9 @@
 // When a branch is taken.
+use crate::check::check_eq;
 use alu::flags::Flags;
 use bus::open::OpenMemory;
+use isa::core08::Core;
+use isa::first_set::FirstSet;
 use isa::model::Model;
 use machine::execute::execute;
 use state::live::Live;
@@ -9,8 +12,8 @@ use state::standing::Standing;
 use std::alloc::Global;
 use std::test::Fail;
 
-// Where a branch at 0 by 16 bytes leads.
-fn lands(heap: Global, opcode: u8, ccr: u8, lines: u32) -> Result<u16, Fail> {
+// Where a branch at 0 by 16 bytes leads on a core.
+fn lands_on<C: Core>(heap: Global, core: &C, opcode: u8, ccr: u8, lines: u32) -> Result<u16, Fail> {
     let mut memory = OpenMemory::from([opcode, 16].to_vec(heap)?);
     let registers = Registers {
         sp: 255,
@@ -22,10 +25,18 @@ fn lands(heap: Global, opcode: u8, ccr: u8, lines: u32) -> Result<u16, Fail> {
         standing: Standing::Running,
         lines,
     };
-    if execute(&mut memory, &Model::Hcs08, &mut live).is_err() {
+    if execute(&mut memory, core, &mut live).is_err() {
         return Err(Fail::new("no branch"));
     }
     Ok(live.registers.pc)
+}
+
+// Where it leads on the whole core, and alike on its first set.
+fn lands(heap: Global, opcode: u8, ccr: u8, lines: u32) -> Result<u16, Fail> {
+    let whole = lands_on(heap, &Model::Hcs08, opcode, ccr, lines)?;
+    let first = lands_on(heap, &FirstSet(Model::Hcs08), opcode, ccr, lines)?;
+    check_eq(first, whole, opcode)?;
+    Ok(whole)
 }
 
 // An opcode, a condition code byte with which it branches, and one with which it does not. V is $80, H $10, I $08, N $04,

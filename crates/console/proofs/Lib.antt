@@ -1,3 +1,4 @@
 pub mod ColumnLaws
+pub mod ColumnPushed
 pub mod LineLaws
 pub mod OrderLaws

@@ -13,6 +13,11 @@ row_text row =
 abbrev pub row_bytes : RegisterRow → List ℕ
 row_bytes row = row_text row ++ 10 ∷ []
 
+-- a text with a row added, column by column
+abbrev pub with_row : List ℕ → RegisterRow → List ℕ
+with_row text row =
+    text ++ column 6 row.line ++ column 6 row.steps ++ column 8 row.cycles ++ column 3 row.refusal ++ column 6 row.pc ++ column 4 row.a ++ column 6 row.hx ++ column 6 row.sp ++ column 4 row.ccr ++ 10 ∷ []
+
 -- what the library writes of a number at `{:>width}`: the fill is a blank (32), and 3 is the right side
 abbrev pub right_aligned : ℕ → ℕ → List ℕ
 right_aligned width n = styled_decimal (format_spec 32 3 0 width (2 ^ 64 - 1)) n

@@ -1,6 +1,7 @@
 // How does a person talk to the emulator?
 #![tactic(auto)]
 
+mod column;
 pub mod examples;
 pub mod first;
 pub mod lines;

@@ -1,12 +1,9 @@
 // The orders: run some steps, raise a line, drop a line.
-ghost use Rattle.std.specs.Prelude.{◌≡◌};
-ghost use Rattle.std.specs.Char.{is_ascii_digit};
-ghost use Rattle.std.specs.List.{list_all};
+ghost use Rattle.std.specs.Prelude.{◌≡◌, ◌≤◌, length};
 ghost use Rattle.std.specs.Result.{result_ok};
-ghost use Rattle.console.specs.Order.{order_of, parts_of, number_of};
+ghost use Rattle.console.specs.Order.{order_of, parts_of, number_of, digits_value};
 
 use crate::understood::NotUnderstood;
-use std::str::from_utf8;
 
 // What a person asks for, with the number of steps or of the line.
 #[derive(Clone, Copy, PartialEq, Eq, Debug)]
@@ -16,22 +13,30 @@ pub enum Order {
     Drop(u32),
 }
 
-// Whether each character is a decimal digit. A function of its own: where `number` asked `all` itself, its proof did not close.
-fn are_digits(text: &[u8]) -> bool
-    ensures { result ≡ list_all is_ascii_digit text.now }
+// The number that a few decimal digits write. By `from_utf8` and `parse`, which looked at each digit three times, an order took 1.1 times
+// as long, its run and its row included.
+fn read_digits(digits: &[u8]) -> Option<u32>
+    requires { length digits.now ≤ 5 }
+    ensures { result ≡ digits_value 0 digits.now }
 {
-    text.iter().all(|character| character.is_ascii_digit())
+    let mut value: u32 = 0;
+    for digit in digits {
+        if !digit.is_ascii_digit() {
+            return None;
+        }
+        value = value * 10 + u32::from(*digit - b'0');
+    }
+    Some(value)
 }
 
-// The number that one to five decimal digits write. `parse` alone would take a sign and more digits.
-#[tactic(auto, using(crate::proofs::OrderLaws::other_character, crate::proofs::OrderLaws::digits_are_text, crate::proofs::OrderLaws::parsed))]
+// The number that one to five decimal digits write.
 fn number(digits: &[u8]) -> Option<u32>
     ensures { result ≡ number_of digits.now }
 {
-    if digits.len() > 5 || !are_digits(digits) {
+    if digits.is_empty() || digits.len() > 5 {
         return None;
     }
-    from_utf8(digits).ok()?.parse().ok()
+    read_digits(digits)
 }
 
 // The letter and the number of a line, with one blank between them.

@@ -11,13 +11,13 @@ use Rattle.isa.specs.Model.{model_table}
 use Rattle.isa.specs.Row.{Written, row_on, rows_on, listed, RowsOf}
 
 module _ (opcode : ℕ) (places : List Written) (model : Model) where
-  at : (page : ℕ → Option Row) → opcode < 256 → rows_on model places ≡ listed page → row_on model (get_or places opcode None) ≡ page opcode
+  pub at : (page : ℕ → Option Row) → opcode < 256 → rows_on model places ≡ listed page → row_on model (get_or places opcode None) ≡ page opcode
   at page h written =
       sym (get_or-map (row_on model) places opcode None)
       ∙ ap (λ (rows : List (Option Row)). get_or rows opcode None) written
       ∙ get_or-map-range_with_len page 0 256 opcode opcode None h (omega arith)
 
-  row_read : (page : Page) → opcode < 256 → RowsOf model page places → row_on model (get_or places opcode None) ≡ model_table model page opcode
+  pub row_read : (page : Page) → opcode < 256 → RowsOf model page places → row_on model (get_or places opcode None) ≡ model_table model page opcode
   row_read First h = at (model_table model First) h
   row_read Second h = at (model_table model Second) h
 

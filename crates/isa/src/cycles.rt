@@ -18,7 +18,7 @@ pub enum Cycles {
 impl Cycles {
     // The cycles on a core, or none where the core lacks the instruction. The kinds are closed: arms that name
     // them all are plainer than a table.
-    pub(crate) fn on(self, model: Model) -> Option<u8>
+    pub fn on(self, model: Model) -> Option<u8>
         ensures { result ≡ cycles_on model self }
     {
         match (self, model) {

@@ -68,7 +68,7 @@ pub struct Row {
 }
 
 // The row that a place holds on a core.
-pub(crate) fn row_on(model: Model, place: Place) -> Option<Row>
+pub fn row_on(model: Model, place: Place) -> Option<Row>
     ensures { result ≡ row_on model place }
 {
     let (operation, mode, bytes, cycles) = place?;

@@ -47,16 +47,23 @@ impl Operand {
         }
     }
 
-    // Where the operand lies. Two modes name a register, and for the other sixteen the answer is memory: a table would say so sixteen
-    // times.
+    // Where the operand lies.
     pub fn home(self) -> Home
         ensures { result ≡ home_of self.mode }
     {
-        match self.mode {
-            Mode::InherentA => Home::Accumulator,
-            Mode::InherentX => Home::Index,
-            _ => Home::Memory,
-        }
+        home_of(self.mode)
+    }
+}
+
+// Where the operand of a mode lies. Two modes name a register, and for the other sixteen the answer is memory: a table would say so sixteen
+// times.
+pub fn home_of(mode: Mode) -> Home
+    ensures { result ≡ home_of mode }
+{
+    match mode {
+        Mode::InherentA => Home::Accumulator,
+        Mode::InherentX => Home::Index,
+        _ => Home::Memory,
     }
 }
 

@@ -1,2 +1,3 @@
+pub mod Ascii
 pub mod Within
 pub mod Zeroed

@@ -23,10 +23,10 @@ use std::alloc::{AllocError, Global};
 pub const INPUT_LIMIT: usize = 32_768;
 
 // A first line that names no core is all that is answered.
-fn refuse_start(heap: Global) -> Result<String, AllocError>
-    ensures { IfOk result (λ text. string_bytes text ≡ refused_start) }
+fn refuse_start(heap: Global) -> Result<Vec<u8>, AllocError>
+    ensures { IfOk result (λ text. text.items ≡ refused_start) }
 {
-    let mut text = String::new(heap);
+    let mut text = Vec::new(heap);
     print_row(&mut text, Some(blank_row(1, Declined::NotUnderstood)))?;
     Ok(text)
 }
@@ -50,11 +50,11 @@ fn first_phase<C: Core + Drop>(heap: Global, core: C) -> Result<Phase<OpenMemory
 }
 
 // Takes the lines after the first one.
-fn session<C: Core + Drop>(heap: Global, core: C, lines: Lines<'_>) -> Result<String, AllocError>
+fn session<C: Core + Drop>(heap: Global, core: C, lines: Lines<'_>) -> Result<Vec<u8>, AllocError>
     requires { length (lines_of lines.0.now) ≤ 32768 }
-    ensures { IfOk result (λ text. string_bytes text ≡ session_prints C.table C.entry_figure core (lines_of lines.entry.0.now)) }
+    ensures { IfOk result (λ text. text.items ≡ session_prints C.table C.entry_figure core (lines_of lines.entry.0.now)) }
 {
-    let mut text = String::new(heap);
+    let mut text = Vec::new(heap);
     let mut phase = first_phase(heap, core)?;
     for (number, line) in (2..).zip(lines) {
         let (next, row) = phase.take_line(Line { number, text: line });
@@ -67,13 +67,13 @@ fn session<C: Core + Drop>(heap: Global, core: C, lines: Lines<'_>) -> Result<St
 // Takes the first line, and on the core that it names the others. The bound is asked of the text here and of the lines above: a type for
 // each would be made once and taken apart once.
 #[tactic(auto, using(crate::proofs::Within::lines_within))]
-fn take_lines(heap: Global, text: &[u8]) -> Result<String, AllocError>
+fn take_lines(heap: Global, text: &[u8]) -> Result<Vec<u8>, AllocError>
     requires { length text.now ≤ 32768 }
-    ensures { IfOk result (λ printed. string_bytes printed ≡ lines_print (lines_of text.now)) }
+    ensures { IfOk result (λ printed. printed.items ≡ lines_print (lines_of text.now)) }
 {
     let mut lines = Lines(text);
     let Some(first) = lines.next() else {
-        return Ok(String::new(heap));
+        return Ok(Vec::new(heap));
     };
     match core_name(first) {
         Some(model) => session(heap, FirstSet(model), lines),
@@ -90,9 +90,13 @@ fn looked_at(input: &[u8]) -> &[u8]
     &input[..INPUT_LIMIT.min(input.len())]
 }
 
-// All that a session prints for its input.
+// All that a session prints for its input. It is ASCII, and so a text.
 pub fn course(heap: Global, input: &[u8]) -> Result<String, AllocError>
     ensures { IfOk result (λ text. string_bytes text ≡ course_prints input.now) }
 {
-    take_lines(heap, looked_at(input))
+    let printed = take_lines(heap, looked_at(input))?;
+    let Ok(text) = String::from_utf8(printed) else {
+        unreachable()
+    };
+    Ok(text)
 }

@@ -1,10 +1,9 @@
 // The rows of a session.
 ghost use Rattle.std.specs.Prelude.{◌≡◌, ◌++◌, is_ok, if◌then◌else◌};
-ghost use Rattle.std.specs.String.{string_bytes};
 ghost use Rattle.session.specs.Rows.{blank_row, printed_row, register_row};
 
 use crate::declined::Declined;
-use console::row::RegisterRow;
+use console::row::{RegisterRow, push_row};
 use state::registers::Registers;
 use std::alloc::AllocError;
 
@@ -55,12 +54,11 @@ pub(crate) fn register_row(
 }
 
 // Adds the row that a line has, if it has one, and a line feed. Where memory is wanting, the text stays as it was.
-pub(crate) fn print_row(text: &mut String, row: Option<RegisterRow>) -> Result<(), AllocError>
-    ensures { string_bytes text.new ≡ (if is_ok result then string_bytes text.old ++ printed_row row else string_bytes text.old) }
+pub(crate) fn print_row(text: &mut Vec<u8>, row: Option<RegisterRow>) -> Result<(), AllocError>
+    ensures { text.new.items ≡ (if is_ok result then text.old.items ++ printed_row row else text.old.items) }
 {
-    let Some(row) = row else {
-        return Ok(());
-    };
-    let line = format!(in *text.allocator(); "{row}\n")?;
-    text.push_str(line.as_str())
+    match row {
+        Some(row) => push_row(text, &row),
+        None => Ok(()),
+    }
 }

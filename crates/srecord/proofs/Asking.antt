@@ -14,7 +14,7 @@ use Rattle.srecord.specs.Load.{open_answer, open_from}
 
 module _ (cells : Cells) (address : ℕ) where
   -- after open cells the next one decides
-  open_more : (place : ℕ) (answer : Result Unit LineRefusal) → address ≤ place → open_from cells address (place - address) ≡ Ok tt → answer ≡ open_answer place (store_answer (cells place)) → open_from cells address (place + 1 - address) ≡ answer
+  pub open_more : (place : ℕ) (answer : Result Unit LineRefusal) → address ≤ place → open_from cells address (place - address) ≡ Ok tt → answer ≡ open_answer place (store_answer (cells place)) → open_from cells address (place + 1 - address) ≡ answer
   open_more place answer from opened is =
       let more : place + 1 - address ≡ suc (place - address) = omega arith in
       let here : address + (place - address) ≡ place = omega arith in
@@ -25,7 +25,7 @@ module _ (cells : Cells) (address : ℕ) where
   refused_longer n (suc more) refusal is = rw (add-suc, refused_longer n more refusal is)
 
   -- a refusal is that of any longer run of cells
-  refused_from : (n count : ℕ) (refusal : LineRefusal) → n ≤ count → open_from cells address n ≡ Err refusal → open_from cells address count ≡ Err refusal
+  pub refused_from : (n count : ℕ) (refusal : LineRefusal) → n ≤ count → open_from cells address n ≡ Err refusal → open_from cells address count ≡ Err refusal
   refused_from n count refusal within is =
       let whole : n + (count - n) ≡ count = omega arith in
       rw whole at (refused_longer n (count - n) refusal is)

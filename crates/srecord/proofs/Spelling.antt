@@ -73,7 +73,7 @@ module _ (line : List ℕ) where
   -- a line of kind `1` that was read is a data record
   data_read : (parsed : Parsed) → DataLine line → record_of line ≡ Ok parsed → (length (drop 2 line) ≡ 2 + 2 * byte_at (drop 2 line) 0) × (record_of line ≡ Ok (data_parsed (address_digits (drop 2 line)) (data_digits (drop 2 line))))
   data_read parsed one is =
-      let read = line_read line parsed is in
+      let read = (line_read line parsed is).1 in
       let both : ◌≡◌ {A = Result Kind LineRefusal} (Ok read.known) (Ok Data) = sym read.kind_is ∙ ap kind_of one in
       let kind : read.known ≡ Data = cc in
       (read.long, is ∙ ap Ok (sym read.parsed_is ∙ ap (λ k. parsed_of k (address_digits (drop 2 line)) (data_digits (drop 2 line))) kind))

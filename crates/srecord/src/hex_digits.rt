@@ -5,7 +5,7 @@ ghost use Rattle.srecord.specs.declared.refusal.LineRefusal.TheVariants.{NotHexa
 ghost use Rattle.srecord.specs.Checksum.{checksum_of};
 ghost use Rattle.srecord.specs.Digits.{all_digits, byte_at, bytes_of};
 
-use crate::digits::{digit, pair};
+use crate::digits::{all_hexadecimal, pair};
 use crate::refusal::LineRefusal;
 
 // Characters of which each is a hexadecimal digit.
@@ -24,22 +24,9 @@ impl<'a> TryFrom<&'a [u8]> for HexDigits<'a> {
         (λ refusal. (refusal ≡ NotHexadecimal) × (all_digits characters.now ≡ false)) };
 
     fn try_from(characters: &'a [u8]) -> Result<HexDigits<'a>, LineRefusal> {
-        if all_hexadecimal(characters) {
-            Ok(HexDigits { characters })
-        } else {
-            Err(LineRefusal::NotHexadecimal)
-        }
+        all_hexadecimal(characters)?;
+        Ok(HexDigits { characters })
     }
-}
-
-// Whether each character is a digit. A function of its own: its contract gives both arms of `try_from` their fact; where `all` was asked
-// there, the proof of the ghost field did not close.
-fn all_hexadecimal(characters: &[u8]) -> bool
-    ensures { result ≡ all_digits characters.now }
-{
-    characters
-        .iter()
-        .all(|character| digit(*character).is_some())
 }
 
 impl<'a> HexDigits<'a> {

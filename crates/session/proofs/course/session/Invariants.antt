@@ -1,5 +1,4 @@
 use Rattle.std.proofs.Common.{◌≡◌, ◌+◌, ◌≤◌, ◌++◌, length, vec_items}
-use Rattle.std.specs.String.{string_bytes}
 use Rattle.bus.specs.Cell.{Cells}
 use Rattle.bus.specs.Open.{open_cells}
 use Rattle.bus.specs.declared.open.OpenMemory.{OpenMemory}
@@ -14,4 +13,4 @@ invariant-loop-number g l =
     let memory : OpenMemory → Cells = λ m. open_cells (vec_items m.bytes) in
     let left = l.number-iterator in
     (left.a.start + length (lines_of left.b.0.now) ≤ 32770)
-    × (string_bytes l.text ++ printed g.C.Core.table g.C.Core.entry_figure left.a.start (lines_of left.b.0.now) (shown memory l.phase) ≡ session_prints g.C.Core.table g.C.Core.entry_figure l.fn.core (lines_of l.fn.lines.0.now))
+    × (vec_items l.text ++ printed g.C.Core.table g.C.Core.entry_figure left.a.start (lines_of left.b.0.now) (shown memory l.phase) ≡ session_prints g.C.Core.table g.C.Core.entry_figure l.fn.core (lines_of l.fn.lines.0.now))

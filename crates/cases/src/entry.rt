@@ -12,9 +12,9 @@ use state::standing::Standing;
 use std::alloc::Global;
 use std::test::Fail;
 
-// Of the lines 5 and 9 the vector of 5 counts, at 65534 - 10. The frame goes from 2 down past 0: PC low, PC high, X, A
-// and the condition codes, before I is set. H is not pushed.
-fn frame_on<C: Core>(heap: Global, core: &C) -> Result<(), Fail> {
+// Enters the request of the lowest of the lines 5 and 9 in a memory of zeros but for the vector of 5, at 65534 - 10, and answers what the
+// machine then holds, and the memory.
+fn entered<C: Core>(heap: Global, core: &C) -> Result<(Live, Vec<u8>), Fail> {
     let mut bytes = vec![in heap; 0u8; 65_536]?;
     if bytes.len() != 65_536 {
         return Err(Fail::new("no whole memory"));
@@ -38,7 +38,14 @@ fn frame_on<C: Core>(heap: Global, core: &C) -> Result<(), Fail> {
     let Ok(cycles) = enter(&mut memory, core, &mut live) else {
         return Err(Fail::new("no entry"));
     };
-    check_eq((cycles, live.standing), (11, Standing::Running), "entry")?;
+    check_eq(cycles, 11, "cycles")?;
+    Ok((live, Vec::from(memory)))
+}
+
+// The frame goes from 2 down past 0: PC low, PC high, X, A and the condition codes, before I is set. H is not pushed.
+fn frame_on<C: Core>(heap: Global, core: &C) -> Result<(), Fail> {
+    let (live, bytes) = entered(heap, core)?;
+    let after = live.registers;
     let expected = Registers {
         a: 0x78,
         h: 0x9A,
@@ -47,15 +54,14 @@ fn frame_on<C: Core>(heap: Global, core: &C) -> Result<(), Fail> {
         pc: 0xABCD,
         flags: Flags::from(0xED),
     };
-    check_eq(live.registers, expected, "registers")?;
-    let after = live.registers;
+    check_eq(live.standing, Standing::Running, "standing")?;
+    check_eq(after, expected, "registers")?;
     check_eq(
         (after.pc, after.sp, after.hx()),
         (0xABCD, 65_533, 0x9A56),
         "words",
     )?;
     check_eq((after.a, u8::from(after.flags)), (0x78, 0xED), "bytes")?;
-    bytes = Vec::from(memory);
     if bytes.len() != 65_536 {
         return Err(Fail::new("no whole memory"));
     }

@@ -1,4 +1,5 @@
-// A column: a decimal number, right-justified with blanks, pushed to a text that has room for it.
+// A column: a decimal number, right-justified with blanks, pushed to a text that has room for it. The loop, the room and the bytes stay
+// for speed, as `push_row` says.
 ghost use Rattle.std.specs.Prelude.{◌≡◌, ◌+◌, ◌≤◌, ◌++◌, length, replicate, vec_len, vec_capacity};
 ghost use Rattle.console.specs.Column.{column};
 

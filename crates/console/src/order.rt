@@ -13,8 +13,8 @@ pub enum Order {
     Drop(u32),
 }
 
-// The number that a few decimal digits write. By `from_utf8` and `parse`, which looked at each digit three times, an order took 1.1 times
-// as long, its run and its row included.
+// The number that a few decimal digits write. `from_utf8` and `parse`, after a look at each digit, took some four times as many steps of
+// the host.
 fn read_digits(digits: &[u8]) -> Option<u32>
     requires { length digits.now ≤ 5 }
     ensures { result ≡ digits_value 0 digits.now }

@@ -22,7 +22,7 @@ use std::alloc::{AllocError, Global};
 // Input past this many bytes is never looked at.
 pub const INPUT_LIMIT: usize = 32_768;
 
-// A first line that names no core is all that is answered.
+// A first line that names no core is all that is answered. The answer is bytes, here and below, since `push_row` adds to these.
 fn refuse_start(heap: Global) -> Result<Vec<u8>, AllocError>
     ensures { IfOk result (λ text. text.items ≡ refused_start) }
 {

@@ -35,7 +35,7 @@ fn require_digit(character: u8) -> Result<(), LineRefusal>
     Ok(())
 }
 
-// Refuses characters of which one is no digit.
+// Refuses characters of which one is no digit. A loop: by `try_for_each` the check found no proof by itself.
 pub(crate) fn all_hexadecimal(characters: &[u8]) -> Result<(), LineRefusal>
     ensures { result ≡ (if all_digits characters.now then Ok tt else Err NotHexadecimal) }
 {

@@ -2,7 +2,7 @@
 use crate::check::check_eq;
 use console::lines::{Lines, next_line};
 use console::order::Order;
-use console::row::RegisterRow;
+use console::row::{RegisterRow, push_row};
 use console::understood::NotUnderstood;
 use std::test::Fail;
 
@@ -75,6 +75,12 @@ fn widest_row(rt: HostRuntime) -> Result<(), Fail> {
         sp: 65_535,
         ccr: 255,
     };
+    let mut text = Vec::new(rt.alloc());
+    push_row(&mut text, &row)?;
+    assert_eq!(rt;
+        text.as_slice(),
+        b"99999999999999999999255 65535 255 65535 65535 255\n".as_slice()
+    );
     assert_eq!(rt;
         format!(in rt.alloc(); "{row}\n")?.as_str(),
         "99999999999999999999255 65535 255 65535 65535 255\n"

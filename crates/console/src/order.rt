@@ -13,8 +13,8 @@ pub enum Order {
     Drop(u32),
 }
 
-// The number that a few decimal digits write. `from_utf8` and `parse`, after a look at each digit, took some four times as many steps of
-// the host.
+// The number that a few decimal digits write. With `from_utf8` and `parse`, after a look at each digit, an order took 83 instructions of the
+// host more.
 fn read_digits(digits: &[u8]) -> Option<u32>
     requires { length digits.now ≤ 5 }
     ensures { result ≡ digits_value 0 digits.now }
